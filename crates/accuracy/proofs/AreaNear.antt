@@ -1,4 +1,5 @@
 -- The area that the call gives for a trapezoid whose strip is one piece is near the exact one. Assumes nothing.
+use Rattle.std.specs.Prelude.{Ok}
 use mathlib.Core.Path.{◌≡◌, sym, ap, ◌∙◌, subst}
 use mathlib.Core.Bool.{Bool, true, false, not}
 use mathlib.Core.List.{List, [], ◌∷◌}
@@ -20,7 +21,6 @@ use Rattle.rounding_error.proofs.Counts as Counts
 use Rattle.rounding_error.proofs.Polynomials.{Expression, given, ratio, ◌add◌, ◌mul◌, evaluated_is}
 use Rattle.rounding_error.proofs.Fractions.{value_fraction, whole_fraction, within_fraction}
 use Rattle.refusals.specs.declared.Refusal.TheVariants.{NoArea}
-use Rattle.refusals.specs.declared.Verdict.TheVariants.{Accepted}
 use Rattle.strips.specs.Claim.{Report}
 use Rattle.planforms.specs.declared.Planform.{Planform}
 use Rattle.planforms.specs.declared.Planform.TheVariants.{Trapezoid}
@@ -45,7 +45,7 @@ use Rattle.accuracy.proofs.ToFractions.{expression_fraction, positive_fraction, 
 ruleset plain = (sorted, one-mul, mul-one, zero-mul, mul-zero, zero-add, add-zero)
 
 -- it is figures, so the one piece that is enough is the one that was counted
-pub only_piece : (report : Report) → OnePiece report → report.verdict ≡ Accepted → report.intervals ≡ 1
+pub only_piece : (report : Report) → OnePiece report → report.verdict ≡ Ok tt → report.intervals ≡ 1
 only_piece report one accepted = elim one.figures_or_8 [
   | inl e ↦ e.1
   | inr e ↦ no_refusal NoArea (sym e ∙ accepted)

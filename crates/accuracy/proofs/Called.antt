@@ -1,4 +1,5 @@
 -- What the call for an area gives for a trapezoid: one strip from 0 to the span, and the chord's values at a height in it. Assumes nothing.
+use Rattle.std.specs.Prelude.{Ok, Err}
 use mathlib.Core.Path.{◌≡◌, refl, sym, ap, ◌∙◌}
 use mathlib.Core.Bool.{Bool, true, false, cond}
 use mathlib.Core.List.{List, [], ◌∷◌}
@@ -11,8 +12,7 @@ use Rattle.floats.specs.Operations.{◌⊕◌, ◌⊖◌, ◌⊗◌, ◌⊘◌, 
 use Rattle.floats.specs.Constants.{half}
 use Rattle.floats.proofs.Bools.{no}
 use Rattle.refusals.specs.declared.Refusal.{Refusal}
-use Rattle.refusals.specs.declared.Verdict.{Verdict}
-use Rattle.refusals.specs.declared.Verdict.TheVariants.{Accepted, Refused}
+use Rattle.refusals.specs.Verdict.{Verdict}
 use Rattle.refusals.specs.Calls.{CallOf, leaves_alone, by_verdict}
 use Rattle.planforms.specs.declared.Planform.{Planform}
 use Rattle.planforms.specs.declared.Planform.TheVariants.{Trapezoid}
@@ -70,14 +70,14 @@ module _ (root tip span sweep : Float) (points : List Float) where
 
 -- ---- an answer by a verdict that is no refusal is the one that is given
 pub chosen : {A : Type 0} (verdict : Verdict) (given : A) (withheld : Refusal → A) (verdict_in : A → Verdict)
-    → ((refusal : Refusal) → verdict_in (withheld refusal) ≡ Refused refusal) → (r : A)
-    → r ≡ by_verdict verdict given withheld → verdict_in r ≡ Accepted → (verdict ≡ Accepted) × (r ≡ given)
-chosen Accepted given withheld verdict_in refuses r e a = (refl, e)
-chosen (Refused refusal) given withheld verdict_in refuses r e a = no_refusal refusal (sym (refuses refusal) ∙ ap verdict_in (sym e) ∙ a)
+    → ((refusal : Refusal) → verdict_in (withheld refusal) ≡ Err refusal) → (r : A)
+    → r ≡ by_verdict verdict given withheld → verdict_in r ≡ Ok tt → (verdict ≡ Ok tt) × (r ≡ given)
+chosen (Ok tt) given withheld verdict_in refuses r e a = (refl, e)
+chosen (Err refusal) given withheld verdict_in refuses r e a = no_refusal refusal (sym (refuses refusal) ∙ ap verdict_in (sym e) ∙ a)
 
 -- what an answer that gives figures says
 pub record Given (planform : Planform) (points : List Float) (L n : ℕ) (r : Area) : Type 0 where
-  pub accepted : area_check planform points L n ≡ Accepted
+  pub accepted : area_check planform points L n ≡ Ok tt
   pub area : r.area_m2 ≡ unscaled_area (scale_of planform points) (summed_of (area_seven planform points L)).totals.value
   pub centroid_x : r.centroid_x_m ≡ scale_of planform points ⊗ at (summed_of (area_seven planform points L)).totals.value 1 ⊘ at
       (summed_of (area_seven planform points L)).totals.value 0
@@ -86,7 +86,7 @@ pub record Given (planform : Planform) (points : List Float) (L n : ℕ) (r : Ar
   pub intervals : r.intervals ≡ intervals_in (area_seven planform points L)
 
 module _ (planform : Planform) (points : List Float) (L n : ℕ) (r : Area) (answer : r ≡ area_figures planform points L n)
-    (given : r.verdict ≡ Accepted) where
+    (given : r.verdict ≡ Ok tt) where
   abbrev verdict_in : Area → Verdict
   verdict_in a = a.verdict
 
@@ -101,7 +101,7 @@ module _ (planform : Planform) (points : List Float) (L n : ℕ) (r : Area) (ans
       (area_call planform points L n) refl (sym (ap verdict_in answer) ∙ given) in
       let worked : r ≡ worked_area planform points L = answer ∙ ap (λ (c : CallOf Area). c.answer) called.1 in
       let concluded = (chosen (conclusion_of total.ending (unscaled_area scale total.totals.value))
-      (area_by Accepted scale total.totals) (λ refusal. refused_area refusal total.totals.samples) verdict_in
+      (area_by (Ok tt) scale total.totals) (λ refusal. refused_area refusal total.totals.samples) verdict_in
       (λ refusal. refl) r worked given).1 in
       record {
         accepted = called.0;

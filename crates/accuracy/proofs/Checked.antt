@@ -1,4 +1,5 @@
 -- What the checks of a call leave: a tip chord that is not below 0, a density above 0 within its limits. Assumes nothing.
+use Rattle.std.specs.Prelude.{Ok}
 use mathlib.Core.Path.{◌≡◌, refl, sym, ◌∙◌}
 use mathlib.Core.Bool.{true, false, ◌||◌}
 use mathlib.Core.List.{List}
@@ -14,7 +15,6 @@ use Rattle.floats.proofs.Order.{le_of_not, equal_not_below, equal_sym}
 use Rattle.rounding.proofs.Ordered.{le→order}
 use Rattle.rounding.proofs.Signs.{finite_no_nan}
 use Rattle.rounding_error.proofs.Numbers.{value_of, Ranges, size_of}
-use Rattle.refusals.specs.declared.Verdict.TheVariants.{Accepted}
 use Rattle.refusals.proofs.Accepted.{both, holds}
 use Rattle.limits.specs.Limits.{root_chord_field, tip_chord_field, length_check, is_within}
 use Rattle.limits.proofs.Lengths.{height_checked}
@@ -42,13 +42,13 @@ unfolding of_bits
 not_below x i h = from_zero x i (of_true _ (le_of_not (bits 0) x (finite_no_nan (bits 0) tt) (finite_no_nan x i) h))
 
 pub tip_checked : (root tip span sweep : Float) (points : List Float) → T (fits binary64 tip) → planform_check
-    (Trapezoid root tip span sweep) points ≡ Accepted → lt tip (bits 0) ≡ false
+    (Trapezoid root tip span sweep) points ≡ Ok tt → lt tip (bits 0) ≡ false
 unfolding planform_check
 tip_checked root tip span sweep points f h = (height_checked tip_chord_field tip f
     (both (length_check tip_chord_field tip) _ (both (length_check root_chord_field root) _ h).1).0 refl refl).not_under
 
 -- ---- a density above 0 within its limits
-pub density_checked : (x : Float) → density_check (Bulk x) ≡ Accepted → lt (bits 0) x ≡ true → T (positive x) × Ranges 24 (size_of x)
+pub density_checked : (x : Float) → density_check (Bulk x) ≡ Ok tt → lt (bits 0) x ≡ true → T (positive x) × Ranges 24 (size_of x)
 unfolding density_check of_bits
 density_checked x h w = elim (or_yes (eq x (bits 0)) (is_within lightest heaviest x)
     (of_true (eq x (bits 0) || is_within lightest heaviest x) (holds (eq x (bits 0) || is_within lightest heaviest x) density h))) [

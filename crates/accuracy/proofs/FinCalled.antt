@@ -1,5 +1,6 @@
 -- From the call for a set's figures to the fin of proofs/SevenIntegrals: its lengths, its integrals, and the exact ones of specs/Inertias
 -- in fractions. Assumes nothing.
+use Rattle.std.specs.Prelude.{Ok}
 use mathlib.Core.Path.{◌≡◌, refl, sym, ap, ◌∙◌, subst}
 use mathlib.Core.Bool.{Bool, true, false, cond}
 use mathlib.Core.List.{List, [], ◌∷◌}
@@ -18,7 +19,6 @@ use Rattle.rounding.proofs.Sizes.{positive_of}
 use Rattle.rounding_error.proofs.Numbers.{◌per◌, ◌of◌, Under, Ranges, value_of, size_of}
 use Rattle.rounding_error.proofs.Fractions.{IsFraction, value_fraction}
 use Rattle.rounding_error.proofs.Polynomials.{◌add◌}
-use Rattle.refusals.specs.declared.Verdict.TheVariants.{Accepted}
 use Rattle.refusals.proofs.Accepted.{each_accepts}
 use Rattle.limits.specs.Limits.{thickness_field, body_radius_field, tab_height_field, tab_length_field, tab_offset_field, length_check}
 use Rattle.limits.proofs.Lengths.{PositiveLength, Height, field_above, height_checked}
@@ -117,7 +117,7 @@ exact_field s e p radius i l =
 
 -- ---- the call
 pub tab_lengths : (height length offset root : Float) → T (fits binary64 height) → T (fits binary64 length)
-    → tab_check (Slab height length offset) root ≡ Accepted → PositiveLength height × PositiveLength length
+    → tab_check (Slab height length offset) root ≡ Ok tt → PositiveLength height × PositiveLength length
 unfolding tab_check
 tab_lengths height length offset root h l c =
     let (a, (b, rest)) = each_accepts
@@ -276,13 +276,13 @@ module _ (section : Section) (p : Plate) (m : Mount) (points : List Float) (L : 
         scale_ranges = scale_ranges;
       }) kronrod_weight k)
 
-  pub tab_accepted : tab_check p.tab p.root ≡ Accepted
+  pub tab_accepted : tab_check p.tab p.root ≡ Ok tt
   unfolding root_chord_of
   tab_accepted = checks.tab
 
   -- ---- its lengths
   module _ (x : Float) (b d : ℕ) (reached : Reached p x b d) (beside : TabBeside (spans_in c) p.tab p x) where
-    tab_sizes : (t : Tab) → TabBeside (spans_in c) t p x → tab_check t p.root ≡ Accepted → TabKnown (fin_at x) c t
+    tab_sizes : (t : Tab) → TabBeside (spans_in c) t p x → tab_check t p.root ≡ Ok tt → TabKnown (fin_at x) c t
     tab_sizes None w k = tt
     tab_sizes (Slab height length offset) w k =
         let v = w.0 in

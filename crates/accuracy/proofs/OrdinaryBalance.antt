@@ -1,5 +1,6 @@
 -- The balance point along the axis of a set that one piece is enough for, of square or airfoil section, with a tab or none and no cant:
 -- near the exact one by computed bounds, from the volume and the moment of proofs/SevenIntegrals. Assumes nothing.
+use Rattle.std.specs.Prelude.{Ok}
 use Rattle.rounding_error.proofs.Polynomials.{◌equals◌, trans, itself, times_is, equal_by, evaluated_is, evaluated_equal, AllNumbers}
 use Rattle.rounding_error.proofs.Polynomials.{Expression, given, ratio, ◌add◌, ◌mul◌}
 use Rattle.rounding_error.proofs.Distances.{within_upto, sorted, within_minus}
@@ -44,7 +45,6 @@ use Rattle.error_terms.proofs.Entries.{full}
 use Rattle.error_terms.proofs.Orders.{near_above, finer}
 use Rattle.error_terms.proofs.Floors.{NotBelow, not_below as from_low, positive_from, times_not_below as not_below_times}
 use Rattle.sorting.specs.Sorted.{Each}
-use Rattle.refusals.specs.declared.Verdict.TheVariants.{Accepted}
 use Rattle.limits.specs.Limits.{base_angle_field, angle_check}
 use Rattle.limits.proofs.Lengths.{PositiveLength, Height}
 use Rattle.planforms.specs.declared.Planform.TheVariants.{Trapezoid}
@@ -406,7 +406,7 @@ module _ (f : Fin) (c : Class) (b d : ℕ) (g : Sizes f c b d) (n : ℕ) (some :
 
 -- what a tab adds to the first moment about the axis is at most 2^27
 tab_radius_below : (thickness radius : Float) (tab : Tab) (p : Plate) (k : ℕ) → Below 6 thickness → Below 6 radius → TabGiven k tab p
-    → tab_check tab p.root ≡ Accepted
+    → tab_check tab p.root ≡ Ok tt
     → Below 27 (r1 (tab_integrals_of tab thickness radius))
 unfolding tab_integrals_of of_bits
 tab_radius_below thickness radius None p k t r h c = weaker (bits 0) 0 27 (lit≤ tt) zero_below
@@ -430,7 +430,7 @@ plate_centre : (v : List Float) (density base : Float) (count : ℕ)
 unfolding plate_body of_origin_tensor
 plate_centre v density base count h = ring_centre (plate_body v density) base count refl h
 
-plate_naught : (v : List Float) (density base : Float) (count : ℕ) → angle_check base_angle_field base ≡ Accepted → 1 ≤ count → count ≤ 32
+plate_naught : (v : List Float) (density base : Float) (count : ℕ) → angle_check base_angle_field base ≡ Ok tt → 1 ≤ count → count ≤ 32
     → T
     (finite (r1 v ⊘ volume v)) → (k : ℕ) → k < count
     → AtMost 0 1 (across_at base count (r1 v ⊘ volume v) k)

@@ -1,4 +1,5 @@
 -- What the call for a set's figures gives for trapezoids with no fillet: their mass; and the samples of a square section. Assumes nothing.
+use Rattle.std.specs.Prelude.{Ok}
 use mathlib.Core.Path.{◌≡◌, refl, sym, ap, ◌∙◌}
 use mathlib.Core.Bool.{Bool, true, false, cond}
 use mathlib.Core.List.{List}
@@ -6,8 +7,7 @@ use Prim.Native.Nat.{ℕ}
 use lib.Ieee.{Float, eq, of_bits}
 use Rattle.floats.specs.Operations.{◌⊕◌, ◌⊗◌, bits, tabulate}
 use Rattle.floats.specs.Floats.{cube}
-use Rattle.refusals.specs.declared.Verdict.{Verdict}
-use Rattle.refusals.specs.declared.Verdict.TheVariants.{Accepted}
+use Rattle.refusals.specs.Verdict.{Verdict}
 use Rattle.refusals.specs.Calls.{CallOf, leaves_alone}
 use Rattle.planforms.specs.Planforms.{root_chord_of}
 use Rattle.sections.specs.declared.Section.{Section}
@@ -33,7 +33,7 @@ use Rattle.accuracy.proofs.Called.{chosen}
 
 -- ---- the answer
 pub record Given (section : Section) (p : Plate) (m : Mount) (points : List Float) (L n : ℕ) (r : Figures) : Type 0 where
-  pub accepted : set_check (set_with section p m) points L n ≡ Accepted
+  pub accepted : set_check (set_with section p m) points L n ≡ Ok tt
   pub intervals : r.intervals ≡ intervals_in (set_strips (set_with section p m) points L)
   pub mass : r.body.mass_kg ≡ in_order (λ x y. x ⊕ y) (bits 0)
       (λ k. p.density ⊗ (value_from (bits 0) 0 (set_strips (set_with section p m) points L) ⊗ cube
@@ -74,7 +74,7 @@ unfolding fillets_of
 no_fillets f radius l e = rw e
 
 module _ (section : Section) (p : Plate) (m : Mount) (points : List Float) (L n : ℕ) (r : Figures)
-    (answer : r ≡ set_figures (set_with section p m) points L n) (given : r.verdict ≡ Accepted)
+    (answer : r ≡ set_figures (set_with section p m) points L n) (given : r.verdict ≡ Ok tt)
     (none : is_none m.fillet.radius_m m.radius ≡ true) where
   abbrev set : FinSet
   set = set_with section p m
@@ -91,7 +91,7 @@ module _ (section : Section) (p : Plate) (m : Mount) (points : List Float) (L n 
   abbrev verdict_in : Figures → Verdict
   verdict_in a = a.verdict
 
-  set_chosen : (set_check set points L n ≡ Accepted) × (r ≡ worked_figures set points L)
+  set_chosen : (set_check set points L n ≡ Ok tt) × (r ≡ worked_figures set points L)
   unfolding set_call
   set_chosen =
       let c = chosen (set_check set points L n) (worked_set set points L) (λ refusal. leaves_alone (refused_figures refusal 0))
@@ -105,10 +105,10 @@ module _ (section : Section) (p : Plate) (m : Mount) (points : List Float) (L n 
   abbrev v : List Float
   v = integrals_of set scale total.totals.value
 
-  concluded : r ≡ figures_by Accepted (fins_of set root v) total.totals
+  concluded : r ≡ figures_by (Ok tt) (fins_of set root v) total.totals
   unfolding concluded_set
   concluded =
-      (chosen (conclusion_of total.ending (volume v)) (figures_by Accepted (fins_of set root v) total.totals)
+      (chosen (conclusion_of total.ending (volume v)) (figures_by (Ok tt) (fins_of set root v) total.totals)
       (λ refusal. refused_figures refusal total.totals.samples) verdict_in (λ refusal. refl) r
       set_chosen.1 given).1
 

@@ -1,4 +1,5 @@
 -- A body turned about the axis keeps its place along it: to it a zero is added, and it is multiplied by 1. Assumes nothing.
+use Rattle.std.specs.Prelude.{Ok}
 use mathlib.Core.Path.{◌≡◌, refl, ap, ◌∙◌}
 use mathlib.Core.Bool.{false}
 use Prim.Native.Nat.{ℕ, zero, suc, ◌+◌, ◌*◌, ◌^◌, ◌≤◌, ◌<◌}
@@ -21,7 +22,6 @@ use Rattle.rounding.proofs.Operations.{neg_most, mul_most, add_most, div_most}
 use Rattle.rounding.proofs.Rounding.{round_most, round_least}
 use Rattle.rounding.proofs.Sizes.{weaker, mul_below, add_below, div_below}
 use Rattle.rounding.proofs.Tests.{most_of_le}
-use Rattle.refusals.specs.declared.Verdict.TheVariants.{Accepted}
 use Rattle.refusals.specs.declared.Refusal.TheVariants.{Angle}
 use Rattle.refusals.proofs.Accepted.{holds}
 use Rattle.limits.specs.Limits.{widest, angle_check}
@@ -128,7 +128,7 @@ pi_below : Below 2 pi
 unfolding of_bits
 pi_below = record { finite = tt; size = lit≤ tt }
 
-angle_checked : (field : ℕ) (x : Float) → angle_check field x ≡ Accepted → Below 2 x
+angle_checked : (field : ℕ) (x : Float) → angle_check field x ≡ Ok tt → Below 2 x
 unfolding angle_check of_bits
 angle_checked field x h = let m = most_of_le x widest tt refl (of_true _ (holds (le (abs_of x) widest) (Angle field) h)) in
     record { finite = m.finite; size = m.size }
@@ -185,7 +185,7 @@ module _ (body : Body) (base : Float) (count : ℕ) where
           ≡ (across_at base count body.centre_m.x k ⊕ one ⊗ body.centre_m.z) ⊗ body.mass_kg
       term k = ap (λ (x : Float). x ⊗ (rolled_copy body base count k).mass_kg) (turned_place body (angle_of base count k) e)
 
-  pub across_naught : (field : ℕ) → angle_check field base ≡ Accepted → 1 ≤ count → count ≤ 32 → T (finite body.centre_m.x) → (k : ℕ)
+  pub across_naught : (field : ℕ) → angle_check field base ≡ Ok tt → 1 ≤ count → count ≤ 32 → T (finite body.centre_m.x) → (k : ℕ)
       → k < count → AtMost 0 1 (across_at base count body.centre_m.x k)
   across_naught field h l u f k i =
       let t = turn_below (angle_of base count k ⊘ two) (half_angle_below base count k (angle_checked field base h) l u i) in

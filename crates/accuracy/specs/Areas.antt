@@ -1,11 +1,10 @@
 -- How near the area of a trapezoid whose strip is one piece is to the exact one, (root + tip)/2·span.
-use Rattle.std.specs.Prelude.{◌≡◌, List, ◌⊎◌, ℕ, ◌*◌, ◌^◌, ◌<◌, T, pos, Float}
+use Rattle.std.specs.Prelude.{◌≡◌, List, ◌⊎◌, ℕ, ◌*◌, ◌^◌, ◌<◌, T, pos, Float, Ok}
 use Rattle.std.specs.Float.{binary64}
 use Rattle.std.specs.Float.Ieee.{fits}
 use Rattle.floats.specs.Fractions.{Fraction, ◌over◌, ◌plus◌, ◌times◌, value_of}
 use Rattle.rounding.specs.Sizes.{AtMost}
 use Rattle.rounding_error.specs.Distances.{Within}
-use Rattle.refusals.specs.declared.Verdict.TheVariants.{Accepted}
 use Rattle.planforms.specs.declared.Planform.TheVariants.{Trapezoid}
 use Rattle.figures.specs.Answers.{AreaAnswers}
 use Rattle.figures.specs.declared.Area.{Area}
@@ -17,7 +16,7 @@ pub record AreaGiven (root tip span sweep : Float) (points : List Float) (L : �
     : Type 0 where
   pub f64s : T (fits binary64 root) × (T (fits binary64 tip) × (T (fits binary64 span) × T (fits binary64 sweep)))
   pub answers : AreaAnswers (Trapezoid root tip span sweep) points L entry r exit
-  pub given : r.verdict ≡ Accepted
+  pub given : r.verdict ≡ Ok tt
 
 -- root, tip and |sweep| are at most b / d
 pub record Reach (b d : ℕ) (root tip sweep : Float) : Type 0 where

@@ -1,6 +1,6 @@
 -- How near the mass of a set of trapezoids, each worked in one piece, is to the exact one: square sections and
 -- airfoils, with a tab or none and no fillet, whatever the cant.
-use Rattle.std.specs.Prelude.{◌≡◌, true, List, ◌⊎◌, ℕ, ◌*◌, ◌^◌, ◌≤◌, ◌<◌, T, pos, Float}
+use Rattle.std.specs.Prelude.{◌≡◌, true, List, ◌⊎◌, ℕ, ◌*◌, ◌^◌, ◌≤◌, ◌<◌, T, pos, Float, Ok}
 use Rattle.std.specs.Float.{binary64}
 use Rattle.std.specs.Float.Ieee.{fits, lt}
 use Rattle.std.specs.Float.Ieee.Positive.{num, den}
@@ -8,7 +8,6 @@ use Rattle.floats.specs.Operations.{bits}
 use Rattle.floats.specs.Fractions.{Fraction, ◌over◌, ◌plus◌, ◌times◌, value_of}
 use Rattle.rounding.specs.Sizes.{AtMost}
 use Rattle.rounding_error.specs.Distances.{Within}
-use Rattle.refusals.specs.declared.Verdict.TheVariants.{Accepted}
 use Rattle.materials.specs.declared.Density.TheVariants.{Bulk}
 use Rattle.sections.specs.Airfoil.{closed_tail, open_tail, phi_exactly}
 use Rattle.sections.specs.declared.Section.{Section}
@@ -74,7 +73,7 @@ pub record SectionGiven (section : Section) (p : Plate) (m : Mount) (points : Li
       × (T (fits binary64 p.tip) × (T (fits binary64 p.span) × T (fits binary64 p.sweep)))
   pub thickness_f64 : T (fits binary64 p.thickness)
   pub answers : SetAnswers (set_with section p m) points L entry r exit
-  pub given : r.verdict ≡ Accepted
+  pub given : r.verdict ≡ Ok tt
   pub no_fillet_lem : is_none m.fillet.radius_m m.radius ≡ true
   pub heavy : lt (bits 0) p.density ≡ true
 

@@ -1,10 +1,9 @@
 -- No sample of a trapezoid or an ellipse lies at its span, which document 02, Paper 1, gave a chord, if its strip ends
 -- with at most 40 pieces.
-use Rattle.std.specs.Prelude.{◌≡◌, List, ℕ, ◌≤◌, T, length, Float}
+use Rattle.std.specs.Prelude.{◌≡◌, List, ℕ, ◌≤◌, T, length, Float, Ok}
 use Rattle.std.specs.Float.{binary64}
 use Rattle.std.specs.Float.Ieee.{fits, lt}
 use Rattle.floats.specs.Operations.{◌⊗◌, ◌⊘◌, bits}
-use Rattle.refusals.specs.declared.Verdict.TheVariants.{Accepted}
 use Rattle.sorting.specs.Sorted.{Each}
 use Rattle.planforms.specs.declared.Planform.{Planform}
 use Rattle.planforms.specs.declared.Planform.TheVariants.{Trapezoid, Ellipse}
@@ -29,7 +28,7 @@ abbrev pub TrapezoidBelow : Type 0
 TrapezoidBelow =
     (root tip span sweep : Float) (points : List Float)
     → T (fits binary64 root) × (T (fits binary64 tip) × (T (fits binary64 span) × T (fits binary64 sweep)))
-    → planform_check (Trapezoid root tip span sweep) points ≡ Accepted
+    → planform_check (Trapezoid root tip span sweep) points ≡ Ok tt
     → BelowSpan (Trapezoid root tip span sweep) points
 
 -- the theorem for an ellipse of f64s that passes the planform's checks
@@ -37,5 +36,5 @@ abbrev pub EllipseBelow : Type 0
 EllipseBelow =
     (root span : Float) (points : List Float)
     → T (fits binary64 root) × T (fits binary64 span)
-    → planform_check (Ellipse root span) points ≡ Accepted
+    → planform_check (Ellipse root span) points ≡ Ok tt
     → BelowSpan (Ellipse root span) points

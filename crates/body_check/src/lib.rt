@@ -20,14 +20,14 @@ pub fn check(body: Body) -> Verdict
 {
     let mass = body.mass_kg;
     if !floats::is_finite(mass) {
-        return Verdict::Refused(Refusal::Mass);
+        return Err(Refusal::Mass);
     }
     if mass < 0.0 {
-        return Verdict::Refused(Refusal::Mass);
+        return Err(Refusal::Mass);
     }
     let centre = body.centre_m;
     if !is_finite(centre) {
-        return Verdict::Refused(Refusal::Centre);
+        return Err(Refusal::Centre);
     }
     let tensor = body.inertia_kg_m2;
     check_tensor(mass, tensor)
@@ -69,7 +69,7 @@ fn is_massless_inertia(mass: f64, largest: f64) -> bool
 fn refused(fault: TensorFault) -> Verdict
     ensures { result ≡ Verdict.Refused (Refusal.Tensor fault) }
 {
-    Verdict::Refused(Refusal::Tensor(fault))
+    Err(Refusal::Tensor(fault))
 }
 
 // Checks ascending moments for 17 d and e.
@@ -82,7 +82,7 @@ fn check_moments(moments: [f64; 3], tolerance: f64) -> Verdict
     if moments[0] + moments[1] < moments[2] - tolerance {
         return refused(TensorFault::Triangle);
     }
-    Verdict::Accepted
+    Ok(())
 }
 
 fn largest_magnitude(tensor: Tensor) -> f64

@@ -1,5 +1,6 @@
 -- What a line asks is what is replied and left; so the lines since a submission are calls on the engine that the program began with, and
 -- the card that ends the job is that of the set's own line. Assumes nothing.
+use Rattle.std.specs.Prelude.{Ok, Err}
 use mathlib.Core.Bool.{Bool, true, false, not, cond}
 use mathlib.Core.List.{List, [], ◌∷◌, ◌++◌}
 use mathlib.Core.Path.{◌≡◌, refl, sym, ap, subst, ◌∙◌}
@@ -15,8 +16,7 @@ use Rattle.tokens.specs.Text.{codes, text}
 use Rattle.tokens.specs.Tokens.{line_bytes}
 use Rattle.refusals.specs.declared.Refusal.{Refusal}
 use Rattle.refusals.specs.declared.Refusal.TheVariants.{NoForm as no_form}
-use Rattle.refusals.specs.declared.Verdict.{Verdict}
-use Rattle.refusals.specs.declared.Verdict.TheVariants.{Accepted, Refused}
+use Rattle.refusals.specs.Verdict.{Verdict}
 use Rattle.refusals.specs.Order.{is_refused}
 use Rattle.refusals.specs.Refusals.{number_of}
 use Rattle.refusals.specs.Calls.{CallOf, leaves_alone, by_verdict}
@@ -144,19 +144,19 @@ stays_long lines = omega (arith, first_length, lines_no_shorter lines at_first)
 
 -- ---- the set's own line
 -- over any scratch that is long enough
-same_check : (set : FinSet) (points : List Float) (L n m : ℕ) → scratch_check L n ≡ Accepted → scratch_check L m ≡ Accepted
+same_check : (set : FinSet) (points : List Float) (L n m : ℕ) → scratch_check L n ≡ Ok tt → scratch_check L m ≡ Ok tt
     → set_check set points L n ≡ set_check set points L m
 unfolding set_check
 same_check set points L n m e f = rw (e, f)
 
-same_figures : (set : FinSet) (points : List Float) (L n m : ℕ) → scratch_check L n ≡ Accepted → scratch_check L m ≡ Accepted
+same_figures : (set : FinSet) (points : List Float) (L n m : ℕ) → scratch_check L n ≡ Ok tt → scratch_check L m ≡ Ok tt
     → set_figures set points L n ≡ set_figures set points L m
 unfolding set_call
 same_figures set points L n m e f =
     ap (λ (v : Verdict). (by_verdict v (worked_set set points L) (λ refusal. leaves_alone (refused_figures refusal 0))).answer)
     (same_check set points L n m e f)
 
-set_line : (line : List ℕ) (set : FinSet) (points : List Float) (L : ℕ) → WritesSet Set line set points L → limit_check L ≡ Accepted
+set_line : (line : List ℕ) (set : FinSet) (points : List Float) (L : ℕ) → WritesSet Set line set points L → limit_check L ≡ Ok tt
     → (lines : List (List ℕ)) (card : Figures)
     → card ≡ set_figures set points L scratch_numbers → Replies line (left_by_lines lines at_first) (set_reply card)
 unfolding set_effect
@@ -178,9 +178,9 @@ unfolding text_of filled text codes
 refused_other r e = let k : ◌≡◌ {A = ℕ} 114 116 = ap second e in let z : ⊥ = omega (arith, k) in z
 
 accepted_if_taken : (v : Verdict) → text_of (plain_reply v TakenShape) ++ (10 ∷ []) ≡ text_of (answered TakenShape [] []) ++ (10 ∷ [])
-    → v ≡ Accepted
-accepted_if_taken Accepted e = refl
-accepted_if_taken (Refused r) e = absurd (refused_other r e)
+    → v ≡ Ok tt
+accepted_if_taken (Ok tt) e = refl
+accepted_if_taken (Err r) e = absurd (refused_other r e)
 
 -- ---- the turn that serves a screen, as a line
 module _ (m : Memory) (long : scratch_numbers ≤ length m.scratch) (screen : ℕ) (some : 1 ≤ screen)
@@ -227,7 +227,7 @@ module _ (before : List (List ℕ)) (submission : List ℕ) (since : List (List 
   named = ap (λ (p : List Float). submit_of Found'.engine screen set p L) h.writes.points_are
 
   was_taken : is_taken (submit_of Found'.engine screen set points L).reply ≡ true
-  unfolding submit_effect is_refused
+  unfolding submit_effect
   was_taken =
       ap (λ (v : Verdict). not (is_refused v))
       (ap (λ (c : EngineReply). c.reply.verdict) (sym named)
@@ -264,7 +264,7 @@ module _ (before : List (List ℕ)) (submission : List ℕ) (since : List (List 
   eight_left : EightScreens Left'.engine
   eight_left = subst EightScreens (sym left_engine) (eight_behind (submit screen set points L ∷ []) Found'.engine eight_then)
 
-  limit_checked : limit_check L ≡ Accepted
+  limit_checked : limit_check L ≡ Ok tt
   unfolding making_check
   limit_checked = (both _ _ on.job.accepted).0
 

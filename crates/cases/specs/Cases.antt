@@ -4,15 +4,14 @@
 -- checklist"): one table, and one theorem that computes every row. Figures compare by ==. Since document 02, Paper 1,
 -- "the tip case in document 01 changes": at the span stands the tip chord. Since Paper 12 a tensor has six numbers, and
 -- "the joined example is reprinted so"; 17e is still the fifth case.
-use Rattle.std.specs.Prelude.{Bool, true, false, ◌&&◌, cond, List, [], ◌∷◌, ◌++◌, map, ℕ, T, eqb, length, take, Float}
+use Rattle.std.specs.Prelude.{Bool, true, false, ◌&&◌, cond, List, [], ◌∷◌, ◌++◌, map, ℕ, T, eqb, length, take, Float, Ok, Err}
 use Rattle.std.specs.Float.Ieee.{add, sub, mul, div, neg, of_bits, of_int, round, lt, le, eq, ne}
 use Rattle.floats.specs.Operations.{bits, every}
 use Rattle.floats.specs.Floats.{abs_of}
 use Rattle.root.specs.Root.{near_root, root_of}
 use Rattle.trig.specs.Trig.{sin_cos_of, sin_of, cos_of}
 use Rattle.refusals.specs.Refusals.{number_of, values_of}
-use Rattle.refusals.specs.declared.Verdict.{Verdict}
-use Rattle.refusals.specs.declared.Verdict.TheVariants.{Accepted, Refused}
+use Rattle.refusals.specs.Verdict.{Verdict}
 use Rattle.planforms.specs.declared.Planform.{Planform}
 use Rattle.planforms.specs.declared.Planform.TheVariants.{Trapezoid}
 use Rattle.chords.specs.Chords.{ends_at}
@@ -29,8 +28,8 @@ use Rattle.bodies.specs.Vectors.{zero_vector}
 use Rattle.bodies.specs.Tensors.{diagonal}
 use Rattle.bodies.specs.Bodies.{inertia_about_of}
 use Rattle.bodies.specs.Layout.{numbers_of}
-use Rattle.joins.specs.Joins.{in_order, sums_of, inertia_of, join_of, combine_of}
-use Rattle.moments.specs.Moments.{rotate, sweep, sweeps, insert_moment, insert_all, eigenvalues_of, principal_moments_of}
+use Rattle.joins.specs.Joins.{in_order, sums_of, inertia_of, join_of, body_told, combine_of}
+use Rattle.moments.specs.Moments.{rotate, sweep, sweeps, insert_moment, insert_all, eigenvalues_of, moments_told, principal_moments_of}
 use Rattle.body_check.specs.BodyCheck.{largest_magnitude, check_tensor, check_of}
 
 -- a row: what is asked, and the answer that it must have, with figures by their bits
@@ -75,13 +74,13 @@ abbrev strip : ℕ → Halved
 strip limit = halving 1 (λ h. bits (cond (lt h (bits 0x3fd5_5555_5555_5555)) 0 one) ∷ []) (bits 0) (bits one) limit
 
 abbrev is_accepted : Verdict → Bool
-is_accepted Accepted = true
-is_accepted (Refused refusal) = false
+is_accepted (Ok tt) = true
+is_accepted (Err refusal) = false
 
 -- 17e: the number 17 with case 4, as cases a to e count from 0
 abbrev is17e : Verdict → Bool
-is17e Accepted = false
-is17e (Refused refusal) = eqb (number_of refusal) 17 && is_case_e (values_of refusal)
+is17e (Ok tt) = false
+is17e (Err refusal) = eqb (number_of refusal) 17 && is_case_e (values_of refusal)
   where
     is_case_e : List ℕ → Bool
     is_case_e [] = false
@@ -94,8 +93,8 @@ holds (cosine x r) = is (cos_of (bits x)) r
 holds (pieces n samples) = eqb (length (strip n).pieces) n && eqb (length (strip n).heights) samples
 holds (chord planform h ends) = are (ends_at planform [] (bits h)) ends
 holds (square a b t begins) = are (take 2 (chord_moments Square (bits a) (bits b) (bits t))) begins
-holds (joined given answer) = are (numbers_of (combine_of (map bits given)).body) answer
-holds (moments a b c answer) = are (principal_moments_of (diagonal_tensor a b c)).moments_kg_m2 answer
+holds (joined given answer) = are (numbers_of (body_told (combine_of (map bits given)))) answer
+holds (moments a b c answer) = are (moments_told (principal_moments_of (diagonal_tensor a b c))) answer
 holds (sound a b c) = is_accepted (check_of (body a b c))
 holds (unsound a b c) = is17e (check_of (body a b c))
 

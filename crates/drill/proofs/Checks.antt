@@ -1,4 +1,5 @@
 -- What the checks before the steps leave: the answer where one refuses, and lengths where all accept. Assumes nothing.
+use Rattle.std.specs.Prelude.{Ok, Err}
 use mathlib.Core.Path.{◌≡◌, refl, sym, ap, subst, ◌∙◌}
 use mathlib.Core.Bool.{Bool, true, false, cond, ◌&&◌, ◌||◌}
 use mathlib.Core.List.{List, [], ◌∷◌, map}
@@ -13,8 +14,7 @@ use Rattle.floats.specs.Operations.{at, bits}
 use Rattle.floats.specs.Floats.{abs_of}
 use Rattle.refusals.specs.declared.Refusal.{Refusal}
 use Rattle.refusals.specs.declared.Refusal.TheVariants.{Length, NoCorners, NotWholeSteps}
-use Rattle.refusals.specs.declared.Verdict.{Verdict}
-use Rattle.refusals.specs.declared.Verdict.TheVariants.{Accepted, Refused as refused_verdict}
+use Rattle.refusals.specs.Verdict.{Verdict}
 use Rattle.refusals.specs.Order.{refuse_unless, first_refusal, first_from}
 use Rattle.refusals.proofs.Accepted.{holds, both, both_true}
 use Rattle.refusals.proofs.Order.{in_order, after_accepted, after_refused}
@@ -53,7 +53,7 @@ module _ (planform : Planform) (points : List Float) (x height : Float) where
   unfolding drill_of drill_check whole answer
   split = ap (λ (v : Verdict). unless_refused v answer) (sym (in_order (planform_check planform points) (_ ∷ _ ∷ _ ∷ _ ∷ [])))
 
-  pub refused : (r : Refusal) → before ≡ refused_verdict r → Refused r ≡ drill_of planform points x height
+  pub refused : (r : Refusal) → before ≡ Err r → Refused r ≡ drill_of planform points x height
   refused r h = sym (split ∙ rw (h, after_refused, after_refused))
 
   -- p, l and m are what the code's checks say, u and w the verdict after the second and the third
@@ -61,7 +61,7 @@ module _ (planform : Planform) (points : List Float) (x height : Float) where
       → m ≡ length_check drill_height_field height → w ≡ first_refusal u m → w ≡ before
   told e f g h i = rw (i, h, g, f, e)
 
-  module _ (accepted : before ≡ Accepted) where
+  module _ (accepted : before ≡ Ok tt) where
     pub no_corners : has_corners planform ≡ false → Refused NoCorners ≡ drill_of planform points x height
     no_corners h = sym (split ∙ rw (accepted, after_accepted, h, after_refused))
 
@@ -81,14 +81,14 @@ within_any z n true l i h = tt
 within_any true n false l i h = subst T (sym (both_true (n || l) i h).1) tt
 within_any false n false l i h = subst T (sym (both_true (n || l) i h).1) tt
 
-pub is_length : (field : ℕ) (x : Float) → length_check field x ≡ Accepted → IsLength x
+pub is_length : (field : ℕ) (x : Float) → length_check field x ≡ Ok tt → IsLength x
 unfolding length_check length_within
 is_length field x h =
     within_any (zero_allowed field) (negative_allowed field) (eq x (bits 0)) (lt (bits 0) x) (is_within shortest longest (abs_of x))
     (holds (length_within (zero_allowed field) (negative_allowed field) x) (Length field) h)
 
-module _ (planform : Planform) (points : List Float) (x height : Float) (accepted : before planform points x height ≡ Accepted) where
-  pub planform_accepted : planform_check planform points ≡ Accepted
+module _ (planform : Planform) (points : List Float) (x height : Float) (accepted : before planform points x height ≡ Ok tt) where
+  pub planform_accepted : planform_check planform points ≡ Ok tt
   planform_accepted = (both _ _ (both _ _ accepted).0).0
 
   pub x_length : IsLength x
@@ -98,7 +98,7 @@ module _ (planform : Planform) (points : List Float) (x height : Float) (accepte
   height_length = is_length drill_height_field height (both _ _ accepted).1
 
 pub trapezoid_lengths : (root tip span sweep : Float) (points more : List Float)
-    → planform_check (Trapezoid root tip span sweep) points ≡ Accepted → AreLengths more → AreLengths (root ∷ tip ∷ span ∷ sweep ∷ more)
+    → planform_check (Trapezoid root tip span sweep) points ≡ Ok tt → AreLengths more → AreLengths (root ∷ tip ∷ span ∷ sweep ∷ more)
 unfolding planform_check
 trapezoid_lengths root tip span sweep points more h rest =
     let a = both _ _ h in
@@ -112,15 +112,15 @@ trapezoid_lengths root tip span sweep points more h rest =
 -- ---- an outline's points
 
 -- where a row of checks accepts, each does
-each_accepts : (i n : ℕ) (check : ℕ → Verdict) → first_from i n check ≡ Accepted → (k : ℕ) → k < n → check (i + k) ≡ Accepted
+each_accepts : (i n : ℕ) (check : ℕ → Verdict) → first_from i n check ≡ Ok tt → (k : ℕ) → k < n → check (i + k) ≡ Ok tt
 unfolding first_from
 each_accepts i zero check h k l = absurd (not-suc-le-zero l)
-each_accepts i (suc n) check h zero l = subst (λ (j : ℕ). check j ≡ Accepted) (let e : i ≡ i + 0 = omega arith in e) (both _ _ h).0
+each_accepts i (suc n) check h zero l = subst (λ (j : ℕ). check j ≡ Ok tt) (let e : i ≡ i + 0 = omega arith in e) (both _ _ h).0
 each_accepts i (suc n) check h (suc k) l =
-    subst (λ (j : ℕ). check j ≡ Accepted) (let e : suc i + k ≡ i + suc k = omega arith in e)
+    subst (λ (j : ℕ). check j ≡ Ok tt) (let e : suc i + k ≡ i + suc k = omega arith in e)
     (each_accepts (suc i) n check (both _ _ h).1 k (omega arith))
 
-module _ (points : List Float) (accepted : outline_check points ≡ Accepted) where
+module _ (points : List Float) (accepted : outline_check points ≡ Ok tt) where
   whole_pairs : length points % 2 ≡ 0
   unfolding outline_check
   whole_pairs =
@@ -129,18 +129,18 @@ module _ (points : List Float) (accepted : outline_check points ≡ Accepted) wh
       (both_true (eqb (length points % 2) 0) (leb 3 (pair_count points))
       (both_true (eqb (length points % 2) 0 && leb 3 (pair_count points)) (leb (pair_count points) most_points) p).0).0
 
-  point : (i : ℕ) → i < pair_count points → point_check points i ≡ Accepted
+  point : (i : ℕ) → i < pair_count points → point_check points i ≡ Ok tt
   unfolding outline_check
   point i h =
       let n = pair_count points in
       let e : 0 + i ≡ i = omega arith in
-      subst (λ (j : ℕ). point_check points j ≡ Accepted) e
+      subst (λ (j : ℕ). point_check points j ≡ Ok tt) e
       (each_accepts 0 (n - 0) (point_check points) (both _ _ (both _ _ accepted).1).0 i (omega arith))
 
   pub outline_lengths : AreLengths points
   outline_lengths k h = by (k % 2) refl (let e : k % 2 ≤ 1 = omega arith in e)
     where
-      checked : point_check points (k / 2) ≡ Accepted
+      checked : point_check points (k / 2) ≡ Ok tt
       checked = point (k / 2) (omega (arith, whole_pairs))
 
       by : (r : ℕ) → k % 2 ≡ r → r ≤ 1 → IsLength (at points k)

@@ -1,9 +1,8 @@
 -- Where may I drill? (document 02, Paper 11)
-use Rattle.std.specs.Prelude.{Bool, true, false, cond, List, [], ◌∷◌, map, ℕ, ℤ, pos, ◌+ℤ◌, length, get_or, Float}
+use Rattle.std.specs.Prelude.{Bool, true, false, cond, List, [], ◌∷◌, map, ℕ, ℤ, pos, ◌+ℤ◌, length, get_or, Float, Ok, Err}
 use Rattle.floats.specs.Operations.{every}
 use Rattle.refusals.specs.declared.Refusal.TheVariants.{NoCorners, NotWholeSteps}
-use Rattle.refusals.specs.declared.Verdict.{Verdict}
-use Rattle.refusals.specs.declared.Verdict.TheVariants.{Accepted, Refused as refused_verdict}
+use Rattle.refusals.specs.Verdict.{Verdict}
 use Rattle.refusals.specs.Order.{refuse_unless, first_of}
 use Rattle.planforms.specs.declared.Planform.{Planform}
 use Rattle.planforms.specs.declared.Planform.TheVariants.{Trapezoid, Ellipse, Outline}
@@ -59,8 +58,8 @@ drill_check planform points x height =
 
 -- an answer, or the refusal of the check before it
 abbrev pub unless_refused : Verdict → Answer → Answer
-unless_refused Accepted answer = answer
-unless_refused (refused_verdict r) answer = Refused r
+unless_refused (Ok tt) answer = answer
+unless_refused (Err r) answer = Refused r
 
 -- where a point lies beside a planform, once it passed the checks
 unfoldable pub drill_of : Planform → List Float → Float → Float → Answer
@@ -71,10 +70,10 @@ drill_of planform points x height =
 -- ---- an answer as a verdict and two numbers, as the library hands it out
 
 abbrev pub verdict_of : Answer → Verdict
-verdict_of (Inside nearest) = Accepted
-verdict_of (Edge nearest) = Accepted
-verdict_of (Outside nearest) = Accepted
-verdict_of (Refused r) = refused_verdict r
+verdict_of (Inside nearest) = Ok tt
+verdict_of (Edge nearest) = Ok tt
+verdict_of (Outside nearest) = Ok tt
+verdict_of (Refused r) = Err r
 
 -- an answer's place as a number: 1 inside, 2 on the edge, 3 outside; 0 where the point is turned away
 abbrev pub place_number : Answer → ℕ

@@ -19,7 +19,7 @@ ghost use Rattle.drill.specs.InSteps.{AreLengths, in_steps};
 
 use limits::check_length;
 use planforms::Planform;
-use refusals::{Refusal, Verdict, first_refusal};
+use refusals::{Refusal, Verdict};
 use steps::{is_whole, steps};
 
 // Where a point lies, each place with the nearest corner's position; or why there is no answer.
@@ -136,10 +136,9 @@ fn drill_outline(points: &[f64], x_m: f64, height_m: f64) -> Answer
 pub fn drill(planform: Planform, points: &[f64], x_m: f64, height_m: f64) -> Answer
     ensures { IsAnswer verdict_of result (drill_of planform points.now x_m height_m) }
 {
-    let v = outlines::check_planform(planform, points);
-    let v = first_refusal(v, check_length(limits::DRILL_X, x_m));
-    let v = first_refusal(v, check_length(limits::DRILL_HEIGHT, height_m));
-    if let Verdict::Refused(refusal) = v {
+    let of_planform = outlines::check_planform(planform, points);
+    let of_point = check_length(limits::DRILL_X, x_m).and(check_length(limits::DRILL_HEIGHT, height_m));
+    if let Err(refusal) = of_planform.and(of_point) {
         return Answer::Refused(refusal);
     }
     match planform {
@@ -162,10 +161,10 @@ pub fn verdict(answer: Answer) -> Verdict
     ensures { result ≡ verdict_of answer }
 {
     match answer {
-        Answer::Inside(_) => Verdict::Accepted,
-        Answer::Edge(_) => Verdict::Accepted,
-        Answer::Outside(_) => Verdict::Accepted,
-        Answer::Refused(refusal) => Verdict::Refused(refusal),
+        Answer::Inside(_) => Ok(()),
+        Answer::Edge(_) => Ok(()),
+        Answer::Outside(_) => Ok(()),
+        Answer::Refused(refusal) => Err(refusal),
     }
 }
 

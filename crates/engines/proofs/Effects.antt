@@ -1,4 +1,5 @@
 -- What a call leaves of the engine: nothing is changed, or the job and the mark of the call's own screen are. Assumes nothing.
+use Rattle.std.specs.Prelude.{Ok, Err}
 use mathlib.Core.Path.{◌≡◌, refl, sym, ap, subst, ◌∙◌}
 use mathlib.Core.Bool.{Bool, true, false, not, cond, ◌&&◌, true≢false}
 use mathlib.Core.List.{List}
@@ -16,8 +17,7 @@ use Rattle.fins.specs.declared.FinSet.{FinSet}
 use Rattle.jobs.specs.declared.Job.{Job}
 use Rattle.jobs.specs.declared.JobReply.{JobReply}
 use Rattle.refusals.specs.Calls.{CallOf}
-use Rattle.refusals.specs.declared.Verdict.{Verdict}
-use Rattle.refusals.specs.declared.Verdict.TheVariants.{Accepted, Refused}
+use Rattle.refusals.specs.Verdict.{Verdict}
 use Rattle.refusals.specs.Order.{is_refused}
 use Rattle.limits.specs.Limits.{scratch_numbers}
 use Rattle.jobs.specs.Jobs.{stepped_on, change_of, made_of}
@@ -91,10 +91,9 @@ made_taken set points L = refl
 -- a density that is refused leaves the job as it is
 not_changed : (job : Job) (density : Density) (e : Bool) → job.ended ≡ e → (v : Verdict) → density_check density ≡ v
     → is_taken (change_of job density).reply ≡ false → (change_of job density).job ≡ job
-unfolding is_refused
 not_changed job density true e v d r = ap (λ (s : JobReply). s.job) (change_ended job density e)
-not_changed job density false e (Refused x) d r = ap (λ (s : JobReply). s.job) (change_refused job density x e d)
-not_changed job density false e Accepted d r = absurd
+not_changed job density false e (Err x) d r = ap (λ (s : JobReply). s.job) (change_refused job density x e d)
+not_changed job density false e (Ok tt) d r = absurd
     (true≢false (sym (ap (λ (s : JobReply). is_taken s.reply) (change_taken job density e d)) ∙ r))
 
 -- ---- what a call leaves
@@ -153,7 +152,6 @@ module _ (engine : Engine) where
         ∙ same_job (place_of screen)
 
     pub busy_not_taken : is_free screens' screen ≡ false → is_taken (submit_of engine screen set points L).reply ≡ false
-    unfolding is_refused
     busy_not_taken f = ap (λ (t : EngineReply). is_taken t.reply) (submit_from _ (submit_not_free screens' _ screen Made' f))
 
     pub refused_not_taken : is_free screens' screen ≡ true → Made'.job.ended ≡ true

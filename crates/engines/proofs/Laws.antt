@@ -1,4 +1,5 @@
 -- The calls by cases, as equations over variable records. Assumes nothing.
+use Rattle.std.specs.Prelude.{Ok, Err}
 use mathlib.Core.Path.{◌≡◌, refl, sym, ap, ◌∙◌}
 use mathlib.Core.Bool.{Bool, true, false, cond, ◌&&◌, not}
 use mathlib.Core.List.{List}
@@ -11,8 +12,7 @@ use lib.ListN.{length, get_or, set}
 use lib.Ieee.{Float}
 use Rattle.floats.proofs.Bools.{and_left, and_right}
 use Rattle.refusals.specs.declared.Refusal.TheVariants.{Scratch, Density as not_taken, Screen as not_free}
-use Rattle.refusals.specs.declared.Verdict.{Verdict}
-use Rattle.refusals.specs.declared.Verdict.TheVariants.{Accepted, Refused}
+use Rattle.refusals.specs.Verdict.{Verdict}
 use Rattle.refusals.specs.Order.{is_refused, refuse_unless}
 use Rattle.limits.specs.Limits.{piece_numbers, scratch_numbers, limit_check, scratch_check}
 use Rattle.limits.proofs.Accepted.{limit_within}
@@ -67,13 +67,13 @@ module _ (screens : Screens) where
 -- ---- a turn
 -- whatever its limit, these numbers serve every step
 pub long_enough : (over : Bool) (L n : ℕ) → scratch_numbers ≤ n → is_short over L n ≡ false
-unfolding is_refused scratch_check
+unfolding scratch_check
 long_enough true L n h = refl
 long_enough false L n h = by (limit_check L) refl
   where
     by : (v : Verdict) → limit_check L ≡ v → (not (is_refused v) && is_refused (scratch_check L n)) ≡ false
-    by (Refused r) e = refl
-    by Accepted e = ap (λ (b : Bool). is_refused (refuse_unless b Scratch))
+    by (Err r) e = refl
+    by (Ok tt) e = ap (λ (b : Bool). is_refused (refuse_unless b Scratch))
         (le-leb (piece_numbers * L) n (let most = (limit_within L e).1 in omega (arith, most, h)))
 
 -- a turn that serves a screen tells which

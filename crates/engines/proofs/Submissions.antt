@@ -1,6 +1,7 @@
 -- Every job that the engine holds was submitted, and the turn that serves it goes on, or ends it as a fresh run ends: a
 -- job on its screen is the job alone, of which jobs/proofs/Together speaks. By cases of the call, then by induction
 -- over the calls. Assumes nothing.
+use Rattle.std.specs.Prelude.{Ok, Err}
 use mathlib.Core.Path.{◌≡◌, refl, sym, ap, subst, ◌∙◌}
 use mathlib.Core.Bool.{Bool, true, false, not, cond, ◌&&◌, true≢false}
 use mathlib.Core.List.{List, [], ◌∷◌, ◌++◌, append-nil, append_assoc}
@@ -14,8 +15,7 @@ use lib.Seq.{get_or-set_same}
 use lib.Ieee.{Float}
 use Rattle.refusals.specs.declared.Refusal.TheVariants.{Scratch}
 use Rattle.floats.proofs.Bools.{and_left, and_right}
-use Rattle.refusals.specs.declared.Verdict.{Verdict}
-use Rattle.refusals.specs.declared.Verdict.TheVariants.{Accepted, Refused}
+use Rattle.refusals.specs.Verdict.{Verdict}
 use Rattle.refusals.specs.Order.{is_refused, refuse_unless, first_refusal}
 use Rattle.refusals.proofs.Accepted.{both}
 use Rattle.limits.specs.Limits.{piece_numbers, scratch_numbers, scratch_check}
@@ -56,8 +56,8 @@ not_both p q = absurd (true≢false (sym p ∙ q))
 -- a change keeps a job running
 module _ (job : Job) (density : Density) (runs : job.ended ≡ false) where
   change_runs' : (v : Verdict) → density_check density ≡ v → (change_of job density).job.ended ≡ false
-  change_runs' Accepted v = ap (λ (s : JobReply). s.job.ended) (change_taken job density runs v)
-  change_runs' (Refused r) v = ap (λ (s : JobReply). s.job.ended) (change_refused job density r runs v) ∙ runs
+  change_runs' (Ok tt) v = ap (λ (s : JobReply). s.job.ended) (change_taken job density runs v)
+  change_runs' (Err r) v = ap (λ (s : JobReply). s.job.ended) (change_refused job density r runs v) ∙ runs
 
   change_runs : (change_of job density).job.ended ≡ false
   change_runs = change_runs' (density_check density) refl
@@ -65,13 +65,13 @@ module _ (job : Job) (density : Density) (runs : job.ended ≡ false) where
 -- what making tells of a job
 module _ (set : FinSet) (points : List Float) (L : ℕ) where
   runs_accepted : (v : Verdict) → making_check set points L ≡ v → (made_of set points L).job.ended ≡ false
-      → making_check set points L ≡ Accepted
-  unfolding made_of is_refused
-  runs_accepted Accepted v e = v
-  runs_accepted (Refused r) v e = not_both (ap is_refused v) e
+      → making_check set points L ≡ Ok tt
+  unfolding made_of
+  runs_accepted (Ok tt) v e = v
+  runs_accepted (Err r) v e = not_both (ap is_refused v) e
 
-  enough : (n : ℕ) → making_check set points L ≡ Accepted → scratch_numbers ≤ n → run_check L n ≡ Accepted
-  unfolding making_check scratch_check first_refusal
+  enough : (n : ℕ) → making_check set points L ≡ Ok tt → scratch_numbers ≤ n → run_check L n ≡ Ok tt
+  unfolding making_check scratch_check
   enough n v h =
       let limit = (both _ _ v).0 in
       let within = limit_within L limit in
@@ -163,7 +163,7 @@ module _ (engine : Engine) (w : EightScreens engine) (screen : ℕ) (holds : hol
 
     module _ (scratch : List Float) (e : screen ≡ screen_of engine (turn scratch)) where
       -- number 2 never comes up, whatever L is
-      room : run_check L (length scratch) ≡ Accepted
+      room : run_check L (length scratch) ≡ Ok tt
       room = enough set points L (length scratch) r.accepted (long scratch e (ltb (length scratch) scratch_numbers) refl e)
 
       pub works_strip : counts Job' (length scratch) ≡ true
@@ -172,7 +172,7 @@ module _ (engine : Engine) (w : EightScreens engine) (screen : ℕ) (holds : hol
           ∙ (over_calls set points L r.accepted own).works_next (ap (λ (j : Job). j.ended) (sym r.is) ∙ r.runs) (length scratch) room
 
       abbrev Fresh' : CallOf JobStep → Type 0
-      Fresh' c = c.answer.job.ended ≡ true → (n : ℕ) → scratch_check L n ≡ Accepted
+      Fresh' c = c.answer.job.ended ≡ true → (n : ℕ) → scratch_check L n ≡ Ok tt
           → c.answer.job.outcome ≡ set_figures (set_after set points L own) points L n
 
       fresh : Fresh' (stepped_by (stepped_on Job'))

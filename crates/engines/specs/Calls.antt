@@ -1,7 +1,6 @@
 -- Calls on one engine in a row, "each call gets the record, in Paper 10 the engine's, as the one before left it"
 -- (document 02, Paper 9), and what holds over them together (Paper 10).
-use Rattle.std.specs.Prelude.{◌≡◌, Bool, true, false, cond, ◌&&◌, List, [], ◌∷◌, ◌++◌, ℕ, ◌≤◌, ◌<◌, ltb, eqb, length, get_or, Float}
-use Rattle.refusals.specs.declared.Verdict.TheVariants.{Accepted}
+use Rattle.std.specs.Prelude.{◌≡◌, Bool, true, false, cond, ◌&&◌, List, [], ◌∷◌, ◌++◌, ℕ, ◌≤◌, ◌<◌, ltb, eqb, length, get_or, Float, Ok}
 use Rattle.limits.specs.Limits.{scratch_numbers, most_samples, scratch_check}
 use Rattle.materials.specs.declared.Density.{Density}
 use Rattle.fins.specs.declared.FinSet.{FinSet}
@@ -188,7 +187,7 @@ SamplesAtMost = (begun : Engine) → Begins begun → (calls : List Call) (call 
 
 -- a job made of a set that was accepted, as these calls left it, and not at its end
 pub record RunsBy (set : FinSet) (points : List Float) (L : ℕ) (calls : List alone.Call) (job : Job) : Type 0 where
-  pub accepted : making_check set points L ≡ Accepted
+  pub accepted : making_check set points L ≡ Ok tt
   pub is : job ≡ job_after set points L calls
   pub runs : job.ended ≡ false
 
@@ -213,7 +212,7 @@ pub record Serves (screen : ℕ) (set : FinSet) (points : List Float) (L : ℕ) 
   pub goes_on : holds_job turned.engine.screens screen ≡ true → turned.turn ≡ More screen
   -- "The answer ending the job equals a fresh run's with the last density accepted" (Paper 9), over any scratch that is
   -- long enough
-  pub ends_as_fresh : holds_job turned.engine.screens screen ≡ false → (n : ℕ) → scratch_check L n ≡ Accepted
+  pub ends_as_fresh : holds_job turned.engine.screens screen ≡ false → (n : ℕ) → scratch_check L n ≡ Ok tt
       → (turned.turn ≡ Ended screen)
       × ((job_of turned.engine screen).outcome ≡ set_figures (set_after set points L calls) points L n)
 

@@ -1,9 +1,8 @@
 -- Eight screens, one engine (document 02, Paper 10): what a turn, a submission and a change of density answer, in every
 -- state of the engine, and what they leave of it and of the scratch.
-use Rattle.std.specs.Prelude.{◌≡◌, Bool, true, false, not, cond, ◌&&◌, List, ℕ, zero, suc, ◌+◌, ◌-◌, ◌%◌, leb, ltb, length, set, get_or, Float}
+use Rattle.std.specs.Prelude.{◌≡◌, Bool, true, false, not, cond, ◌&&◌, List, ℕ, zero, suc, ◌+◌, ◌-◌, ◌%◌, leb, ltb, length, set, get_or, Float, Err}
 use Rattle.refusals.specs.declared.Refusal.{Refusal}
 use Rattle.refusals.specs.declared.Refusal.TheVariants.{Scratch, Density as not_taken, Screen as not_free}
-use Rattle.refusals.specs.declared.Verdict.TheVariants.{Refused}
 use Rattle.refusals.specs.Given.{IsAnswer}
 use Rattle.materials.specs.declared.Density.{Density}
 use Rattle.fins.specs.declared.FinSet.{FinSet}
@@ -71,7 +70,7 @@ with_held screens screen holds last = record { held = set screens.held (place_of
 -- "A turn lent under 1,024 numbers answers 2, jobs or none, .. its samples are 0"; "with no jobs a turn does nothing
 -- and says so"; "otherwise it answers the screen served and the step's answer"
 abbrev pub turn_row : Turn → Job → Row
-turn_row Short job = figures_row (bare_figures (Refused Scratch) 0)
+turn_row Short job = figures_row (bare_figures (Err Scratch) 0)
 turn_row Idle job = plain_row 1001
 turn_row (More screen) job = step_row more_remain job
 turn_row (Ended screen) job = step_row has_ended job
@@ -126,7 +125,7 @@ IsAtScreen r definition = IsAnswer (λ (s : ScreenReply). s.reply.verdict) r def
 -- a call that is refused answers a number with 0 samples, and changes nothing
 abbrev pub refused : Screens → Job → Refusal → ScreenReply
 refused screens job refusal =
-    record { screens = screens; job = job; reply = record { verdict = Refused refusal; samples = 0 } }
+    record { screens = screens; job = job; reply = record { verdict = Err refusal; samples = 0 } }
 
 -- "A submission is answered taken, or refused and changes nothing"; 23 "before anything else in that submission". A job
 -- that was refused has ended when it is made.

@@ -1,8 +1,7 @@
 -- The job that the logic takes for an element past the end of a list of jobs. An engine has eight jobs, and no screen's
 -- place is past them.
-use Rattle.std.specs.Prelude.{false, []}
+use Rattle.std.specs.Prelude.{false, [], Ok}
 use Rattle.std.specs.Float.{nan}
-use Rattle.refusals.specs.declared.Verdict.TheVariants.{Accepted}
 use Rattle.materials.specs.declared.Density.TheVariants.{Bulk}
 use Rattle.sections.specs.declared.Section.TheVariants.{Square}
 use Rattle.planforms.specs.declared.Planform.TheVariants.{Trapezoid}
@@ -29,7 +28,7 @@ no_set =
 abbrev no_outcome : Figures
 no_outcome =
     record {
-      verdict = Accepted;
+      verdict = (Ok tt);
       body =
           record {
             mass_kg = nan;

@@ -188,7 +188,7 @@ pub fn serve(screens: Screens, job: Job, scratch: &mut [f64]) -> ScreenTurn
 fn refuse(screens: Screens, job: Job, refusal: Refusal) -> ScreenReply
     ensures { result ≡ refused screens job refusal }
 {
-    let verdict = Verdict::Refused(refusal);
+    let verdict = Err(refusal);
     let reply = Reply {
         verdict,
         samples: 0,

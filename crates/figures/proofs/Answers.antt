@@ -1,4 +1,5 @@
 -- What the two calls promise follows from what their parts do. Assumes nothing.
+use Rattle.std.specs.Prelude.{Ok, Err}
 use mathlib.Core.Path.{◌≡◌, refl, sym, ap, subst, ◌∙◌}
 use mathlib.Core.List.{List}
 use Prim.Native.Nat.{ℕ}
@@ -6,8 +7,7 @@ use native.Mathlib.Omega.{arith}
 use lib.ListN.{length}
 use lib.Ieee.{Float}
 use Rattle.refusals.specs.declared.Refusal.{Refusal}
-use Rattle.refusals.specs.declared.Verdict.{Verdict}
-use Rattle.refusals.specs.declared.Verdict.TheVariants.{Accepted, Refused}
+use Rattle.refusals.specs.Verdict.{Verdict}
 use Rattle.planforms.specs.declared.Planform.{Planform}
 use Rattle.planforms.proofs.Sized.{PlanformF64}
 use Rattle.planforms.specs.Planforms.{root_chord_of}
@@ -38,7 +38,7 @@ use Rattle.figures.proofs.Reports.{concluded_zeros, concluded_area_samples, conc
 use Rattle.figures.proofs.Reports.{concluded_area_zeros}
 
 -- ---- an accepted set, and a refused one
-pub set_reported : (set : FinSet) (points : List Float) (L n : ℕ) (r : Figures) → set_check set points L n ≡ Accepted
+pub set_reported : (set : FinSet) (points : List Float) (L n : ℕ) (r : Figures) → set_check set points L n ≡ Ok tt
     → r ≡ worked_figures set points L
     → AreReported (set_strips set points L) (set_report r)
 set_reported set points L n r accepts e =
@@ -52,7 +52,7 @@ set_reported set points L n r accepts e =
     }
 
 module _ (set : FinSet) (points : List Float) (L : ℕ) (entry : List Float) (r : Figures) (exit : List Float) where
-  pub set_worked : SetF64 set points → set_check set points L (length entry) ≡ Accepted → Does (worked_set set points L) r entry exit
+  pub set_worked : SetF64 set points → set_check set points L (length entry) ≡ Ok tt → Does (worked_set set points L) r entry exit
       → SetAnswers set points L entry r exit
   unfolding set_call
   set_worked f64s accepts w =
@@ -74,7 +74,7 @@ module _ (set : FinSet) (points : List Float) (L : ℕ) (entry : List Float) (r 
         numbers_finite = set_numbers_finite set points L (length entry) f64s;
       }
 
-  pub set_refused : (refusal : Refusal) → set_check set points L (length entry) ≡ Refused refusal → r ≡ refused_figures refusal 0
+  pub set_refused : (refusal : Refusal) → set_check set points L (length entry) ≡ Err refusal → r ≡ refused_figures refusal 0
       → exit ≡ entry →
       SetAnswers set points L entry r exit
   unfolding set_call
@@ -82,7 +82,7 @@ module _ (set : FinSet) (points : List Float) (L : ℕ) (entry : List Float) (r 
       record {
         call = rw refuses (e, s);
         given_before_strips = λ other h. (
-          gives_row r.verdict (Refused other) (ap (λ (x : Figures). x.verdict) e ∙ sym refuses ∙ h),
+          gives_row r.verdict (Err other) (ap (λ (x : Figures). x.verdict) e ∙ sym refuses ∙ h),
           ap (λ (x : Figures). x.samples)
               e,
           s,
@@ -109,7 +109,7 @@ module _ (planform : Planform) (points : List Float) (L : ℕ) (entry : List Flo
             (concluded_area_verdict scale seven r e);
       }
 
-  pub area_worked : PlanformF64 planform points → area_check planform points L (length entry) ≡ Accepted
+  pub area_worked : PlanformF64 planform points → area_check planform points L (length entry) ≡ Ok tt
       → Does (worked_planform planform points L) r entry exit → AreaAnswers planform points L entry r exit
   unfolding area_call
   area_worked f64s accepts w =
@@ -130,7 +130,7 @@ module _ (planform : Planform) (points : List Float) (L : ℕ) (entry : List Flo
         numbers_finite = area_numbers_finite planform points L (length entry) f64s;
       }
 
-  pub area_refused : (refusal : Refusal) → area_check planform points L (length entry) ≡ Refused refusal → r ≡ refused_area refusal 0
+  pub area_refused : (refusal : Refusal) → area_check planform points L (length entry) ≡ Err refusal → r ≡ refused_area refusal 0
       → exit ≡ entry →
       AreaAnswers planform points L entry r exit
   unfolding area_call
@@ -138,7 +138,7 @@ module _ (planform : Planform) (points : List Float) (L : ℕ) (entry : List Flo
       record {
         call = rw refuses (e, s);
         given_before_strips = λ other h. (
-          gives_row r.verdict (Refused other) (ap (λ (x : Area). x.verdict) e ∙ sym refuses ∙ h),
+          gives_row r.verdict (Err other) (ap (λ (x : Area). x.verdict) e ∙ sym refuses ∙ h),
           ap (λ (x : Area). x.samples) e,
           s,
         );

@@ -1,5 +1,6 @@
 -- What is reported once the strips of an accepted set, or planform, are worked: figures, 8 or 13, by the ending of the last strip.
 -- Assumes nothing.
+use Rattle.std.specs.Prelude.{Ok, Err}
 use mathlib.Core.Path.{◌≡◌, refl, sym, ap, subst, ◌∙◌}
 use mathlib.Core.Bool.{Bool, true, false}
 use mathlib.Core.List.{List}
@@ -10,8 +11,7 @@ use lib.Ieee.{Float, le}
 use Rattle.floats.specs.Operations.{bits}
 use Rattle.refusals.specs.declared.Refusal.{Refusal}
 use Rattle.refusals.specs.declared.Refusal.TheVariants.{NoArea}
-use Rattle.refusals.specs.declared.Verdict.{Verdict}
-use Rattle.refusals.specs.declared.Verdict.TheVariants.{Accepted, Refused}
+use Rattle.refusals.specs.Verdict.{Verdict}
 use Rattle.refusals.specs.Order.{refuse_when, first_refusal}
 use Rattle.refusals.specs.Given.{Gives}
 use Rattle.bodies.specs.declared.Body.{Body}
@@ -31,12 +31,11 @@ use Rattle.figures.specs.declared.Area.{Area}
 use Rattle.figures.specs.Figures.{conclusion_of, size_check, figures_by, fins_of, concluded_set}
 use Rattle.figures.specs.Areas.{unscaled_area, area_by, concluded_area}
 
-pub no_refusal : {A : Type 0} (refusal : Refusal) → Refused refusal ≡ Accepted → A
+pub no_refusal : {A : Type 0} (refusal : Refusal) → Err refusal ≡ Ok tt → A
 no_refusal refusal e = absurd (let z : ◌≡◌ {A = ℕ} 0 1 = cc in let none : ⊥ = omega arith in none)
 
 -- ---- how the strips ended, then 8
 reported : (ending : Ending) (size : Float) → Reported ending (first_refusal (verdict_of ending) (size_check size))
-unfolding first_refusal
 reported accepted size = go (le size (bits 0))
   where
     go : (b : Bool) → Reported accepted (refuse_when b NoArea)
@@ -52,21 +51,21 @@ ZeroFigures r = (number : ℕ) (values : List ℕ) → Gives r.verdict number va
 
 module _ (body : Body) (totals : Totals) where
   figures_verdict : (verdict : Verdict) → (figures_by verdict body totals).verdict ≡ verdict
-  figures_verdict Accepted = refl
-  figures_verdict (Refused refusal) = refl
+  figures_verdict (Ok tt) = refl
+  figures_verdict (Err refusal) = refl
 
   figures_samples : (verdict : Verdict) → (figures_by verdict body totals).samples ≡ totals.samples
-  figures_samples Accepted = refl
-  figures_samples (Refused refusal) = refl
+  figures_samples (Ok tt) = refl
+  figures_samples (Err refusal) = refl
 
-  figures_intervals : (verdict : Verdict) → (figures_by verdict body totals).verdict ≡ Accepted
+  figures_intervals : (verdict : Verdict) → (figures_by verdict body totals).verdict ≡ Ok tt
       → (figures_by verdict body totals).intervals ≡ totals.intervals
-  figures_intervals Accepted h = refl
-  figures_intervals (Refused refusal) h = no_refusal refusal h
+  figures_intervals (Ok tt) h = refl
+  figures_intervals (Err refusal) h = no_refusal refusal h
 
   figures_zeros : (verdict : Verdict) → ZeroFigures (figures_by verdict body totals)
-  figures_zeros Accepted number values g = absurd g
-  figures_zeros (Refused refusal) number values g = (refl, refl)
+  figures_zeros (Ok tt) number values g = absurd g
+  figures_zeros (Err refusal) number values g = (refl, refl)
 
 -- by what the integrals and the verdict are known to be
 pub set_concluded : (set : FinSet) (root scale : Float) (total : Integral) {v : List Float} {known : Verdict} {r : Figures}
@@ -94,7 +93,7 @@ module _ (set : FinSet) (root scale : Float) (strips : List Worked) (r : Figures
   unfolding concluded_set
   concluded_samples = ap (λ (x : Figures). x.samples) answer ∙ figures_samples Body' (summed_of strips).totals Verdict'
 
-  pub concluded_intervals : r.verdict ≡ Accepted → r.intervals ≡ intervals_in strips
+  pub concluded_intervals : r.verdict ≡ Ok tt → r.intervals ≡ intervals_in strips
   unfolding concluded_set
   concluded_intervals h =
       ap (λ (x : Figures). x.intervals) answer
@@ -119,21 +118,21 @@ ZeroArea r = (number : ℕ) (values : List ℕ) → Gives r.verdict number value
 
 module _ (scale : Float) (totals : Totals) where
   area_verdict : (verdict : Verdict) → (area_by verdict scale totals).verdict ≡ verdict
-  area_verdict Accepted = refl
-  area_verdict (Refused refusal) = refl
+  area_verdict (Ok tt) = refl
+  area_verdict (Err refusal) = refl
 
   area_samples : (verdict : Verdict) → (area_by verdict scale totals).samples ≡ totals.samples
-  area_samples Accepted = refl
-  area_samples (Refused refusal) = refl
+  area_samples (Ok tt) = refl
+  area_samples (Err refusal) = refl
 
-  area_intervals : (verdict : Verdict) → (area_by verdict scale totals).verdict ≡ Accepted
+  area_intervals : (verdict : Verdict) → (area_by verdict scale totals).verdict ≡ Ok tt
       → (area_by verdict scale totals).intervals ≡ totals.intervals
-  area_intervals Accepted h = refl
-  area_intervals (Refused refusal) h = no_refusal refusal h
+  area_intervals (Ok tt) h = refl
+  area_intervals (Err refusal) h = no_refusal refusal h
 
   area_zeros : (verdict : Verdict) → ZeroArea (area_by verdict scale totals)
-  area_zeros Accepted number values n = absurd n
-  area_zeros (Refused refusal) number values n = (refl, refl, refl, refl)
+  area_zeros (Ok tt) number values n = absurd n
+  area_zeros (Err refusal) number values n = (refl, refl, refl, refl)
 
 module _ (scale : Float) (strips : List Worked) (r : Area) (answer : r ≡ concluded_area scale (summed_of strips)) where
   abbrev AreaVerdict' : Verdict
@@ -143,7 +142,7 @@ module _ (scale : Float) (strips : List Worked) (r : Area) (answer : r ≡ concl
   unfolding concluded_area
   concluded_area_samples = ap (λ (x : Area). x.samples) answer ∙ area_samples scale (summed_of strips).totals AreaVerdict'
 
-  pub concluded_area_intervals : r.verdict ≡ Accepted → r.intervals ≡ intervals_in strips
+  pub concluded_area_intervals : r.verdict ≡ Ok tt → r.intervals ≡ intervals_in strips
   unfolding concluded_area
   concluded_area_intervals h =
       ap (λ (x : Area). x.intervals) answer

@@ -1,5 +1,6 @@
 -- The runs of every set and every planform that passed the checks are bounded: so their pieces rise, and their samples
 -- and the numbers worked from these are finite. Assumes nothing.
+use Rattle.std.specs.Prelude.{Ok}
 use mathlib.Core.Path.{◌≡◌}
 use mathlib.Core.List.{List}
 use Prim.Native.Nat.{ℕ, ◌≤◌}
@@ -11,7 +12,6 @@ use Rattle.floats.specs.Operations.{◌⊘◌}
 use Rattle.rounding.specs.Sizes.{Below}
 use Rattle.rounding.proofs.Sizes.{div_below}
 use Rattle.sorting.specs.Sorted.{Each}
-use Rattle.refusals.specs.declared.Verdict.TheVariants.{Accepted}
 use Rattle.limits.specs.Limits.{thickness_field, body_radius_field}
 use Rattle.limits.proofs.Lengths.{Length, length_checked}
 use Rattle.sections.specs.declared.Section.{Section}
@@ -62,7 +62,7 @@ plate_wide planform points section thickness radius h = lit≤ tt
 
 -- ---- the runs
 module _ (planform : Planform) (points : List Float) (L n : ℕ) (f64s : PlanformF64 planform points)
-    (accepted : area_check planform points L n ≡ Accepted) where
+    (accepted : area_check planform points L n ≡ Ok tt) where
   area_sized : SizedRun (area_run planform points L)
   area_sized =
       let s = planform_sized planform points f64s (area_planform planform points L n accepted) in
@@ -88,7 +88,7 @@ module _ (planform : Planform) (points : List Float) (L n : ℕ) (f64s : Planfor
   pub area_numbers_finite : NumbersFinite (area_run planform points L) (area_strips planform points L)
   area_numbers_finite = numbers_finite (area_run planform points L) area_sized
 
-module _ (set : FinSet) (points : List Float) (L n : ℕ) (f64s : SetF64 set points) (accepted : set_check set points L n ≡ Accepted) where
+module _ (set : FinSet) (points : List Float) (L n : ℕ) (f64s : SetF64 set points) (accepted : set_check set points L n ≡ Ok tt) where
   set_sized : SizedRun (set_run set points L)
   set_sized =
       let a = set_accepted set points L n accepted in

@@ -1,10 +1,10 @@
 -- The strips that the code works are those of the set, or of the planform: integrand, scale and break heights. Assumes nothing.
+use Rattle.std.specs.Prelude.{Ok, Err}
 use mathlib.Core.Path.{◌≡◌, refl, ap, ◌∙◌}
 use mathlib.Core.List.{List}
 use Prim.Native.Nat.{ℕ}
 use lib.Ieee.{Float}
-use Rattle.refusals.specs.declared.Verdict.{Verdict}
-use Rattle.refusals.specs.declared.Verdict.TheVariants.{Accepted, Refused}
+use Rattle.refusals.specs.Verdict.{Verdict}
 use Rattle.refusals.specs.Order.{first_refusal}
 use Rattle.planforms.specs.declared.Planform.{Planform}
 use Rattle.breaks.specs.Breaks.{break_heights}
@@ -34,17 +34,16 @@ unfolding area_of
 area_strips_lem planform points L integrand e = ap (λ (f : Integrand). strips_of f points L) e
 
 -- 1 and 2 are the first checks of both
-first_two : (a b later : Verdict) → first_refusal a (first_refusal b later) ≡ Accepted → first_refusal a b ≡ Accepted
-unfolding first_refusal
-first_two Accepted Accepted later h = refl
-first_two Accepted (Refused refusal) later h = h
-first_two (Refused refusal) b later h = h
+first_two : (a b later : Verdict) → first_refusal a (first_refusal b later) ≡ Ok tt → first_refusal a b ≡ Ok tt
+first_two (Ok tt) (Ok tt) later h = refl
+first_two (Ok tt) (Err refusal) later h = h
+first_two (Err refusal) b later h = h
 
-pub set_run_lem : (set : FinSet) (points : List Float) (L n : ℕ) → set_check set points L n ≡ Accepted → Room L n
+pub set_run_lem : (set : FinSet) (points : List Float) (L n : ℕ) → set_check set points L n ≡ Ok tt → Room L n
 unfolding set_check
 set_run_lem set points L n h = run_within L n (first_two _ _ _ h)
 
-pub area_run_lem : (planform : Planform) (points : List Float) (L n : ℕ) → area_check planform points L n ≡ Accepted → Room L n
+pub area_run_lem : (planform : Planform) (points : List Float) (L n : ℕ) → area_check planform points L n ≡ Ok tt → Room L n
 unfolding area_check
 area_run_lem planform points L n h = run_within L n (first_two _ _ _ h)
 

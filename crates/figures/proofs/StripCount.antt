@@ -1,4 +1,5 @@
 -- Every accepted set and planform has a strip, and "at most 62 strips" (document 01, "Set and planform"). Assumes nothing.
+use Rattle.std.specs.Prelude.{Ok}
 use mathlib.Core.Path.{◌≡◌, refl, sym, subst, ◌∙◌}
 use mathlib.Core.Bool.{Bool, true, false, not, cond, ◌&&◌, ◌||◌, false≢true}
 use mathlib.Core.List.{List, [], ◌∷◌}
@@ -11,7 +12,6 @@ use lib.Ieee.{Float, eq, lt, ne, is_nan}
 use Rattle.floats.specs.Operations.{◌⊘◌, bits}
 use Rattle.floats.specs.Floats.{abs_of}
 use Rattle.refusals.specs.declared.Refusal.TheVariants.{Length, Ends}
-use Rattle.refusals.specs.declared.Verdict.TheVariants.{Accepted}
 use Rattle.sorting.specs.Sorted.{NoNan, Each, among}
 use Rattle.floats.proofs.Bools.{or_true}
 use Rattle.floats.proofs.Order.{lt_asym, equal_no_nan, equal_itself, equal_sym, equal_trans, equal_not_below, below_nan}
@@ -73,11 +73,11 @@ within_fit y h = go (eq y (bits 0)) (lt (bits 0) y) refl refl
     go false true e l = above_fit y l
     go false false e l = absurd (false≢true (rw (e, l) at h))
 
-point_fit : (points : List Float) (i : ℕ) → point_check points i ≡ Accepted → Fit (height_at points i)
+point_fit : (points : List Float) (i : ℕ) → point_check points i ≡ Ok tt → Fit (height_at points i)
 unfolding length_check
 point_fit points i h = within_fit (height_at points i) (holds _ _ (both _ _ (both _ _ h).1).0)
 
-heights_fit : (points : List Float) (n : ℕ) → ((k : ℕ) → k < n → point_check points k ≡ Accepted) → Each Fit (heights points n)
+heights_fit : (points : List Float) (n : ℕ) → ((k : ℕ) → k < n → point_check points k ≡ Ok tt) → Each Fit (heights points n)
 unfolding heights
 heights_fit points zero f = tt
 heights_fit points (suc n) f = (point_fit points n (f n (omega arith)), heights_fit points n (λ k b. f k (omega (arith, b))))
@@ -91,7 +91,7 @@ each_not_under : (l : List Float) → Each Fit l → Each (NotUnder (bits 0)) l
 each_not_under [] e = tt
 each_not_under (x ∷ l) e = (e.0.1, each_not_under l e.1)
 
-largest_fit : (points : List Float) (n : ℕ) → ((k : ℕ) → k < n → point_check points k ≡ Accepted) → Fit (largest_height points n)
+largest_fit : (points : List Float) (n : ℕ) → ((k : ℕ) → k < n → point_check points k ≡ Ok tt) → Fit (largest_height points n)
 unfolding largest_height
 largest_fit points zero f = zero_fit
 largest_fit points (suc n) f =
@@ -105,14 +105,14 @@ largest_fit points (suc n) f =
     go false true m y = y
     go false false m y = m
 
-outline_points : (points : List Float) → outline_check points ≡ Accepted → (k : ℕ) → k < pair_count points → point_check points k ≡ Accepted
+outline_points : (points : List Float) → outline_check points ≡ Ok tt → (k : ℕ) → k < pair_count points → point_check points k ≡ Ok tt
 unfolding outline_check
 outline_points points h k less =
     let n = pair_count points in
     let all : n - 0 ≡ n = omega arith in
     rw (let e : 0 + k ≡ k = omega arith in e) at (each_accepted (point_check points) 0 n (rw all at (both _ _ (both _ _ h).1).0) k less)
 
-outline_few : (points : List Float) → outline_check points ≡ Accepted → length (break_heights Outline points) ≤ most_strips + 1
+outline_few : (points : List Float) → outline_check points ≡ Ok tt → length (break_heights Outline points) ≤ most_strips + 1
 unfolding outline_check
 outline_few points h =
     let n = pair_count points in
@@ -129,7 +129,7 @@ outline_few points h =
     most_outline_breaks points (omega (arith, b)) b.1 (each_number (heights points n) (heights_fit points n (outline_points points h)))
     (both_true p q first_two.0).1 first_three.1
 
-heights_few : (planform : Planform) (points : List Float) → planform_check planform points ≡ Accepted
+heights_few : (planform : Planform) (points : List Float) → planform_check planform points ≡ Ok tt
     → length (break_heights planform points) ≤ most_strips + 1
 unfolding planform_check every_y
 heights_few (Trapezoid root tip span sweep) points h = omega (arith, at_most_two_more (Trapezoid root tip span sweep) points)
@@ -138,14 +138,14 @@ heights_few Outline points h = outline_few points h
 
 -- ---- two break heights at least
 
-span_above_zero : (span : Float) → length_check span_field span ≡ Accepted → lt (bits 0) span ≡ true
+span_above_zero : (span : Float) → length_check span_field span ≡ Ok tt → lt (bits 0) span ≡ true
 unfolding length_check length_within
 span_above_zero span h =
     (both_true (lt (bits 0) span) (is_within shortest longest (abs_of span))
     (holds (lt (bits 0) span && is_within shortest longest (abs_of span)) (Length span_field) h)).0
 
 -- ---- all heights of an accepted planform are numbers, and none lies below 0
-all_fit : (planform : Planform) (points : List Float) → planform_check planform points ≡ Accepted → Each Fit (all_heights planform points)
+all_fit : (planform : Planform) (points : List Float) → planform_check planform points ≡ Ok tt → Each Fit (all_heights planform points)
 unfolding planform_check every_y span_of
 all_fit (Trapezoid root tip span sweep) points h =
     (zero_fit, (above_fit span (span_above_zero span (both _ _ (both _ _ (both _ _ h).1).1).0), tt))
@@ -160,11 +160,11 @@ all_fit Outline points h =
       ),
     )
 
-pub all_numbers : (planform : Planform) (points : List Float) → planform_check planform points ≡ Accepted
+pub all_numbers : (planform : Planform) (points : List Float) → planform_check planform points ≡ Ok tt
     → NoNan (all_heights planform points)
 all_numbers planform points h = each_number (all_heights planform points) (all_fit planform points h)
 
-pub none_under_zero : (planform : Planform) (points : List Float) → planform_check planform points ≡ Accepted
+pub none_under_zero : (planform : Planform) (points : List Float) → planform_check planform points ≡ Ok tt
     → Each (NotUnder (bits 0)) (all_heights planform points)
 none_under_zero planform points h = each_not_under (all_heights planform points) (all_fit planform points h)
 
@@ -199,7 +199,7 @@ height_among points (suc n) k o l = go (eqb k n) refl (height_among points n k o
     go false e f = or_true (eq (height_at points k) (height_at points n)) (among (height_at points k) (heights points n))
         (f (omega (arith, eqb-false k n e)))
 
-outline_some : (points : List Float) → outline_check points ≡ Accepted → 2 ≤ length (break_heights Outline points)
+outline_some : (points : List Float) → outline_check points ≡ Ok tt → 2 ≤ length (break_heights Outline points)
 unfolding outline_check every_y among length_check
 outline_some points h = go (leb 2 (length (break_heights Outline points))) refl
   where
@@ -236,7 +236,7 @@ outline_some points h = go (leb 2 (length (break_heights Outline points))) refl
         (break_heights_members Outline points (height_at points k) ∙ all_heights_lem k l)
         (break_heights_members Outline points (bits 0) ∙ or_left _ _ (zero_is (bits 0) zero_zero))))))
 
-pub heights_some : (planform : Planform) (points : List Float) → planform_check planform points ≡ Accepted
+pub heights_some : (planform : Planform) (points : List Float) → planform_check planform points ≡ Ok tt
     → 2 ≤ length (break_heights planform points)
 unfolding planform_check one_strip
 heights_some (Trapezoid root tip span sweep) points h =
@@ -254,7 +254,7 @@ worked_some w f limit scale (a ∷ b ∷ l) h = omega arith
 -- ---- the strips of an accepted set, and of an accepted planform
 
 counted : (w : ℕ) (f : Float → List Float) (limit : ℕ) (scale : Float) (planform : Planform) (points : List Float)
-    → planform_check planform points ≡ Accepted
+    → planform_check planform points ≡ Ok tt
     → (1 ≤ length (worked_of w f limit scale (break_heights planform points)))
     × (length (worked_of w f limit scale (break_heights planform points)) ≤ most_strips)
 counted w f limit scale planform points accepted = (
@@ -262,12 +262,12 @@ counted w f limit scale planform points accepted = (
   omega (arith, worked_few w f limit scale (break_heights planform points), heights_few planform points accepted),
 )
 
-pub set_strips_counted : (set : FinSet) (points : List Float) (L n : ℕ) → set_check set points L n ≡ Accepted
+pub set_strips_counted : (set : FinSet) (points : List Float) (L n : ℕ) → set_check set points L n ≡ Ok tt
     → (1 ≤ length (set_strips set points L)) × (length (set_strips set points L) ≤ most_strips)
 set_strips_counted set points L n accepted =
     counted 7 (set_integrand set points) L (scale_of set.planform points) set.planform points (set_planform set points L n accepted)
 
-pub area_strips_counted : (planform : Planform) (points : List Float) (L n : ℕ) → area_check planform points L n ≡ Accepted
+pub area_strips_counted : (planform : Planform) (points : List Float) (L n : ℕ) → area_check planform points L n ≡ Ok tt
     → (1 ≤ length (area_strips planform points L)) × (length (area_strips planform points L) ≤ most_strips)
 area_strips_counted planform points L n accepted =
     counted 3 (area_three planform points) L (scale_of planform points) planform points (area_planform planform points L n accepted)

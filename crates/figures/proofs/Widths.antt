@@ -1,5 +1,6 @@
 -- The area's run at width three: the run at seven, which the code works, is the one at three with four zeros behind each piece's values and
 -- errors, as the ends of an accepted planform's strips are bounded and in order. Assumes nothing.
+use Rattle.std.specs.Prelude.{Ok}
 use mathlib.Core.Path.{◌≡◌, refl}
 use mathlib.Core.List.{List, [], ◌∷◌}
 use Prim.Native.Nat.{ℕ, zero, suc, ◌≤◌, ◌<◌}
@@ -9,7 +10,6 @@ use lib.Ieee.{Float}
 use Rattle.floats.specs.Operations.{bits, at}
 use Rattle.rounding.specs.Sizes.{InOrder}
 use Rattle.rounding.proofs.Sizes.{wider}
-use Rattle.refusals.specs.declared.Verdict.TheVariants.{Accepted}
 use Rattle.planforms.specs.declared.Planform.{Planform}
 use Rattle.planforms.proofs.Sized.{PlanformF64, Sized}
 use Rattle.breaks.specs.Breaks.{break_heights}
@@ -68,6 +68,6 @@ module _ (planform : Planform) (points : List Float) (L : ℕ) where
       (breaks_bounded planform points s) (breaks_rise planform points s)))
 
   -- "an area run uses three of the seven, the rest zero"
-  pub area_at_three : (n : ℕ) → PlanformF64 planform points → area_check planform points L n ≡ Accepted
+  pub area_at_three : (n : ℕ) → PlanformF64 planform points → area_check planform points L n ≡ Ok tt
       → Seven ≡ area_seven planform points L
   area_at_three n f accepted = sized_at_three (planform_sized planform points f (area_planform planform points L n accepted))

@@ -1,9 +1,8 @@
 -- A planform's area and centroid (document 01, "Order": "For area alone"; fins.rs, `FinPlanform::geometry`).
-use Rattle.std.specs.Prelude.{List, ℕ, Float}
+use Rattle.std.specs.Prelude.{List, ℕ, Float, Ok, Err}
 use Rattle.floats.specs.Operations.{◌⊗◌, ◌⊘◌, bits, at}
 use Rattle.refusals.specs.declared.Refusal.{Refusal}
-use Rattle.refusals.specs.declared.Verdict.{Verdict}
-use Rattle.refusals.specs.declared.Verdict.TheVariants.{Accepted, Refused}
+use Rattle.refusals.specs.Verdict.{Verdict}
 use Rattle.refusals.specs.Calls.{CallOf, leaves_alone, by_verdict}
 use Rattle.planforms.specs.declared.Planform.{Planform}
 use Rattle.breaks.specs.Breaks.{break_heights}
@@ -40,7 +39,7 @@ area_seven planform points L = seven_wide 3 (area_strips planform points L)
 abbrev pub refused_area : Refusal → ℕ → Area
 refused_area refusal samples =
     record {
-      verdict = Refused refusal;
+      verdict = Err refusal;
       area_m2 = bits 0;
       centroid_x_m = bits 0;
       centroid_span_m = bits 0;
@@ -57,7 +56,7 @@ abbrev pub area_by : Verdict → Float → Totals → Area
 area_by verdict scale totals =
     by_verdict verdict
     (record {
-      verdict = Accepted;
+      verdict = (Ok tt);
       area_m2 = unscaled_area scale totals.value;
       centroid_x_m = scale ⊗ at totals.value 1 ⊘ at totals.value 0;
       centroid_span_m = scale ⊗ at totals.value 2 ⊘ at totals.value 0;

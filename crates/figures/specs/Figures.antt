@@ -1,13 +1,12 @@
 -- A set's figures (document 01, "Set and planform", "Body" and "Refusal numbers"; fins.rs, `FinSet::mass_properties`).
-use Rattle.std.specs.Prelude.{List, ℕ, Float}
+use Rattle.std.specs.Prelude.{List, ℕ, Float, Ok, Err}
 use Rattle.std.specs.Float.Ieee.{le}
 use Rattle.floats.specs.Operations.{bits}
 use Rattle.bodies.specs.declared.Body.{Body}
 use Rattle.bodies.specs.Bodies.{empty_body}
 use Rattle.refusals.specs.declared.Refusal.{Refusal}
 use Rattle.refusals.specs.declared.Refusal.TheVariants.{NoArea}
-use Rattle.refusals.specs.declared.Verdict.{Verdict}
-use Rattle.refusals.specs.declared.Verdict.TheVariants.{Accepted, Refused}
+use Rattle.refusals.specs.Verdict.{Verdict}
 use Rattle.refusals.specs.Order.{refuse_when, first_refusal}
 use Rattle.refusals.specs.Calls.{CallOf, leaves_alone, by_verdict}
 use Rattle.planforms.specs.Planforms.{root_chord_of}
@@ -50,7 +49,7 @@ abbrev pub bare_figures : Verdict → ℕ → Figures
 bare_figures verdict samples = record { verdict = verdict; body = empty_body; intervals = 0; samples = samples }
 
 abbrev pub refused_figures : Refusal → ℕ → Figures
-refused_figures refusal = bare_figures (Refused refusal)
+refused_figures refusal = bare_figures (Err refusal)
 
 -- 8: "area or volume <= 0"; a NaN passes
 abbrev pub size_check : Float → Verdict
@@ -64,7 +63,7 @@ conclusion_of ending size = first_refusal (verdict_of ending) (size_check size)
 abbrev pub figures_by : Verdict → Body → Totals → Figures
 figures_by verdict body totals =
     by_verdict verdict
-    (record { verdict = Accepted; body = body; intervals = totals.intervals; samples = totals.samples })
+    (record { verdict = (Ok tt); body = body; intervals = totals.intervals; samples = totals.samples })
     (λ refusal. refused_figures refusal totals.samples)
 
 -- a set's body from the integrals of one fin and the root chord

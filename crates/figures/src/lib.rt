@@ -79,10 +79,10 @@ fn concluded(set: FinSet, root_chord_m: f64, scale_m: f64, total: Integral) -> F
     let v = plates::integrals(set, scale_m, value);
     let verdict = conclusion(ending, v[0]);
     match verdict {
-        Verdict::Accepted => {
+        Ok(()) => {
             let fin = plates::fin(set, root_chord_m, v);
             let body = rings::ring(fin, set.base_angle_rad, set.count);
-            let verdict = Verdict::Accepted;
+            let verdict = Ok(());
             Figures {
                 verdict,
                 body,
@@ -90,7 +90,7 @@ fn concluded(set: FinSet, root_chord_m: f64, scale_m: f64, total: Integral) -> F
                 samples: totals.samples,
             }
         }
-        Verdict::Refused(refusal) => bare_figures(Verdict::Refused(refusal), totals.samples),
+        Err(refusal) => bare_figures(Err(refusal), totals.samples),
     }
 }
 
@@ -134,15 +134,15 @@ pub fn mass_properties(set: FinSet, points: &[f64], limit: usize, scratch: &mut 
 {
     let verdict = fins::check_set(set, points, limit, scratch.len());
     match verdict {
-        Verdict::Accepted => work_set(set, points, limit, scratch),
-        Verdict::Refused(refusal) => bare_figures(Verdict::Refused(refusal), 0),
+        Ok(()) => work_set(set, points, limit, scratch),
+        Err(refusal) => bare_figures(Err(refusal), 0),
     }
 }
 
 fn refused_area(refusal: Refusal, samples: usize) -> Area
     ensures { result ≡ refused_area refusal samples }
 {
-    let verdict = Verdict::Refused(refusal);
+    let verdict = Err(refusal);
     Area {
         verdict,
         area_m2: 0.0,
@@ -163,8 +163,8 @@ fn concluded_area(scale_m: f64, total: Integral) -> Area
     let area_m2 = value[0] * scale_m * scale_m;
     let verdict = conclusion(ending, area_m2);
     match verdict {
-        Verdict::Accepted => {
-            let verdict = Verdict::Accepted;
+        Ok(()) => {
+            let verdict = Ok(());
             Area {
                 verdict,
                 area_m2,
@@ -174,7 +174,7 @@ fn concluded_area(scale_m: f64, total: Integral) -> Area
                 samples: totals.samples,
             }
         }
-        Verdict::Refused(refusal) => refused_area(refusal, totals.samples),
+        Err(refusal) => refused_area(refusal, totals.samples),
     }
 }
 
@@ -196,7 +196,7 @@ pub fn geometry(planform: Planform, points: &[f64], limit: usize, scratch: &mut 
 {
     let verdict = fins::check_area(planform, points, limit, scratch.len());
     match verdict {
-        Verdict::Accepted => work_area(planform, points, limit, scratch),
-        Verdict::Refused(refusal) => refused_area(refusal, 0),
+        Ok(()) => work_area(planform, points, limit, scratch),
+        Err(refusal) => refused_area(refusal, 0),
     }
 }

@@ -1,5 +1,6 @@
 -- The area and the moments of a fillet's section are finite, of every radius and body radius within their limits and
 -- above 0. Assumes nothing.
+use Rattle.std.specs.Prelude.{Ok}
 use mathlib.Core.Path.{◌≡◌, refl}
 use mathlib.Core.Bool.{Bool, true, false, cond}
 use mathlib.Core.List.{[], ◌∷◌}
@@ -22,7 +23,6 @@ use Rattle.rounding.proofs.Sizes.{weaker, zero_below, half_below, mul_below, div
 use Rattle.rounding.proofs.Sizes.{add_plus, above_num, positive_of, mul_above}
 use Rattle.rounding.proofs.Roots.{root_below}
 use Rattle.rounding.proofs.Terms.{Term, given, ◌plus◌, ◌less◌, ◌times◌, ◌over◌, AllAbove, within}
-use Rattle.refusals.specs.declared.Verdict.TheVariants.{Accepted}
 use Rattle.limits.specs.Limits.{body_radius_field, fillet_radius_field, length_check}
 use Rattle.limits.proofs.Lengths.{PositiveLength, above_checked}
 use Rattle.fillets.specs.declared.AreaMoments.{AreaMoments}
@@ -319,8 +319,8 @@ module _ (rb r : Float) (hb : PositiveLength rb) (hr : PositiveLength r) where
       is_finite_lem (fin t m e) i = refl
 
 -- the same of radii whose checks accept
-pub checked_finite : (rb r : Float) → T (fits binary64 rb) → T (fits binary64 r) → length_check body_radius_field rb ≡ Accepted
-    → length_check fillet_radius_field r ≡ Accepted → lt (bits 0) rb ≡ true → lt (bits 0) r ≡ true
+pub checked_finite : (rb r : Float) → T (fits binary64 rb) → T (fits binary64 r) → length_check body_radius_field rb ≡ Ok tt
+    → length_check fillet_radius_field r ≡ Ok tt → lt (bits 0) rb ≡ true → lt (bits 0) r ≡ true
     → is_sound (fillet_section_of rb r) ≡ lt (bits 0) (fillet_section_of rb r).area_m2
 checked_finite rb r fb fr cb cr pb pr = section_finite rb r (above_checked body_radius_field rb fb cb pb)
     (above_checked fillet_radius_field r fr cr pr)

@@ -1,6 +1,6 @@
 -- The two fillets along one fin's root: when there are any, their refusals, and their body (document 02, Paper 6;
 -- fins.rs, `fillets`).
-use Rattle.std.specs.Prelude.{Bool, true, false, not, ◌&&◌, ◌||◌, cond, List, [], ◌∷◌, Float}
+use Rattle.std.specs.Prelude.{Bool, true, false, not, ◌&&◌, ◌||◌, cond, List, [], ◌∷◌, Float, Ok}
 use Rattle.std.specs.Float.Ieee.{neg, eq, lt}
 use Rattle.floats.specs.Operations.{◌⊕◌, ◌⊗◌, ◌⊘◌, bits}
 use Rattle.floats.specs.Constants.{half, two, three}
@@ -11,8 +11,7 @@ use Rattle.bodies.specs.Vectors.{vector}
 use Rattle.bodies.specs.Tensors.{symmetric}
 use Rattle.bodies.specs.Bodies.{empty_body, of_origin_tensor}
 use Rattle.refusals.specs.declared.Refusal.TheVariants.{FilletRatio}
-use Rattle.refusals.specs.declared.Verdict.{Verdict}
-use Rattle.refusals.specs.declared.Verdict.TheVariants.{Accepted}
+use Rattle.refusals.specs.Verdict.{Verdict}
 use Rattle.refusals.specs.Order.{refuse_when}
 use Rattle.materials.specs.declared.Density.{Density}
 use Rattle.materials.specs.declared.Density.TheVariants.{Bulk, Surface, Line}
@@ -46,7 +45,7 @@ is_sound s = lt (bits 0) s.area_m2 && is_finite s.sx_m3 && is_finite s.sxx_m4 &&
 
 -- "The fillet's density is checked .. for any positive radius."
 abbrev pub glue_check : Fillet → Verdict
-glue_check f = cond (lt (bits 0) f.radius_m) (density_check f.density) Accepted
+glue_check f = cond (lt (bits 0) f.radius_m) (density_check f.density) (Ok tt)
 
 -- 22: "ratio over 1000 or a section not positive and finite"
 abbrev pub is_refused : Float → Float → Bool

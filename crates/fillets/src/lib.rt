@@ -240,7 +240,7 @@ pub fn check_glue(fillet: Fillet) -> Verdict
     if 0.0 < fillet.radius_m {
         return materials::check_density(density);
     }
-    Verdict::Accepted
+    Ok(())
 }
 
 // Checks a fillet for 22: it is no more than a thousand times as wide as the body, and its section is positive and
@@ -249,7 +249,7 @@ pub fn check_ratio(radius_m: f64, body_radius_m: f64) -> Verdict
     ensures { result ≡ ratio_check radius_m body_radius_m }
 {
     if is_none(radius_m, body_radius_m) {
-        return Verdict::Accepted;
+        return Ok(());
     }
     let wide = WIDEST < radius_m / body_radius_m;
     let sound = is_sound(fillet_section(body_radius_m, radius_m));

@@ -1,8 +1,8 @@
 -- The lengths of an accepted planform are within their limits. Assumes nothing.
+use Rattle.std.specs.Prelude.{Ok}
 use mathlib.Core.Path.{◌≡◌, refl}
 use mathlib.Core.List.{List}
 use lib.Ieee.{Float}
-use Rattle.refusals.specs.declared.Verdict.TheVariants.{Accepted}
 use Rattle.refusals.proofs.Accepted.{both}
 use Rattle.limits.specs.Limits.{root_chord_field, tip_chord_field, span_field, sweep_field, length_check}
 use Rattle.limits.proofs.Lengths.{length_checked, field_above}
@@ -12,7 +12,7 @@ use Rattle.planforms.proofs.Sized.{PlanformF64, Sized}
 use Rattle.outlines.proofs.Sized.{outline_sized}
 use Rattle.outlines.specs.Outlines.{planform_check}
 
-pub planform_sized : (planform : Planform) (points : List Float) → PlanformF64 planform points → planform_check planform points ≡ Accepted
+pub planform_sized : (planform : Planform) (points : List Float) → PlanformF64 planform points → planform_check planform points ≡ Ok tt
     → Sized planform points
 unfolding planform_check
 planform_sized (Trapezoid root tip span sweep) points f h =

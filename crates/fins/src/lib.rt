@@ -17,7 +17,7 @@ use fillets::{FILLET_FIGURES, Fillet, NumberedFillet};
 use limits::{check_angle, check_length};
 use materials::{Density, NumberedDensity};
 use planforms::{LENGTHS, NumberedPlanform, Planform};
-use refusals::{Refusal, Verdict, first_refusal, is_refused};
+use refusals::{Refusal, Verdict};
 use sections::{NumberedSection, Section};
 
 // A rectangular tab below each root: its depth, its length, and how far aft of the root's leading edge it starts.
@@ -270,17 +270,17 @@ fn check_slab(height_m: f64, length_m: f64, offset_m: f64, root_chord_m: f64) ->
     ensures { result ≡ slab_check height_m length_m offset_m root_chord_m }
 {
     let off_root = (offset_m < 0.0) | (root_chord_m * (1.0 + 1e-12) < offset_m + length_m);
-    let v = check_length(limits::TAB_HEIGHT, height_m);
-    let v = first_refusal(v, check_length(limits::TAB_LENGTH, length_m));
-    let v = first_refusal(v, check_length(limits::TAB_OFFSET, offset_m));
-    first_refusal(v, refusals::refuse_when(off_root, Refusal::TabOffRoot))
+    check_length(limits::TAB_HEIGHT, height_m)?;
+    check_length(limits::TAB_LENGTH, length_m)?;
+    check_length(limits::TAB_OFFSET, offset_m)?;
+    refusals::refuse_when(off_root, Refusal::TabOffRoot)
 }
 
 fn check_tab(tab: Tab, root_chord_m: f64) -> Verdict
     ensures { result ≡ tab_check tab root_chord_m }
 {
     match tab {
-        Tab::None => Verdict::Accepted,
+        Tab::None => Ok(()),
         Tab::Slab {
             height_m,
             length_m,
@@ -294,7 +294,7 @@ fn check_depth(tab: Tab, body_radius_m: f64) -> Verdict
     ensures { result ≡ depth_check tab body_radius_m }
 {
     match tab {
-        Tab::None => Verdict::Accepted,
+        Tab::None => Ok(()),
         Tab::Slab {
             height_m,
             length_m: _,
@@ -308,13 +308,10 @@ fn check_plate(root_chord_m: f64, thickness_m: f64, cant_rad: f64, base_angle_ra
     ensures { result ≡ first_of (plate_checks root_chord_m thickness_m cant_rad base_angle_rad) }
 {
     let over_root = root_chord_m < thickness_m;
-    let v = check_length(limits::THICKNESS, thickness_m);
-    let v = first_refusal(
-        v,
-        refusals::refuse_when(over_root, Refusal::ThicknessOverRoot),
-    );
-    let v = first_refusal(v, check_angle(limits::CANT, cant_rad));
-    first_refusal(v, check_angle(limits::BASE_ANGLE, base_angle_rad))
+    check_length(limits::THICKNESS, thickness_m)?;
+    refusals::refuse_when(over_root, Refusal::ThicknessOverRoot)?;
+    check_angle(limits::CANT, cant_rad)?;
+    check_angle(limits::BASE_ANGLE, base_angle_rad)
 }
 
 // Checks the fillet's radius, the tab, the body radius, how deep the tab reaches, and the density.
@@ -327,23 +324,24 @@ fn check_mount(
 ) -> Verdict
     ensures { result ≡ first_of (mount_checks tab fillet_radius_m root_chord_m body_radius_m density) }
 {
-    let v = check_length(limits::FILLET_RADIUS, fillet_radius_m);
-    let v = first_refusal(v, check_tab(tab, root_chord_m));
-    let v = first_refusal(v, check_length(limits::BODY_RADIUS, body_radius_m));
-    let v = first_refusal(v, check_depth(tab, body_radius_m));
-    first_refusal(v, materials::check_density(density))
+    check_length(limits::FILLET_RADIUS, fillet_radius_m)?;
+    check_tab(tab, root_chord_m)?;
+    check_length(limits::BODY_RADIUS, body_radius_m)?;
+    check_depth(tab, body_radius_m)?;
+    materials::check_density(density)
 }
 
 // Checks the fillet's density and 22.
 fn check_fillet(fillet: Fillet, body_radius_m: f64) -> Verdict
     ensures { result ≡ first_of (fillet_checks fillet body_radius_m) }
 {
-    let v = fillets::check_glue(fillet);
-    first_refusal(v, fillets::check_ratio(fillet.radius_m, body_radius_m))
+    fillets::check_glue(fillet)?;
+    fillets::check_ratio(fillet.radius_m, body_radius_m)
 }
 
 // Checks the set itself, whatever the interval limit and the scratch: 3, the planform, and so on to 22. The first
 // refusal is the answer.
+#[tactic(auto, using(refusals::proofs::Given::is_answer, crate::proofs::Groups::own_check_by_group))]
 pub fn check_own(set: FinSet, points: &[f64]) -> Verdict
     ensures { IsVerdict result (own_check set points.now) }
 {
@@ -351,54 +349,41 @@ pub fn check_own(set: FinSet, points: &[f64]) -> Verdict
     let tab = set.tab;
     let fillet = set.fillet;
     let density = set.density;
-    let v = limits::check_count(set.count);
-    if is_refused(v) {
-        return v;
-    }
-    let v = outlines::check_planform(planform, points);
-    if is_refused(v) {
-        return v;
-    }
+    limits::check_count(set.count)?;
+    outlines::check_planform(planform, points)?;
     let root_chord_m = planforms::root_chord_m(planform, points);
-    let v = check_plate(
+    check_plate(
         root_chord_m,
         set.thickness_m,
         set.cant_rad,
         set.base_angle_rad,
-    );
-    if is_refused(v) {
-        return v;
-    }
-    let v = check_mount(
+    )?;
+    check_mount(
         tab,
         fillet.radius_m,
         root_chord_m,
         set.body_radius_m,
         density,
-    );
-    if is_refused(v) {
-        return v;
-    }
+    )?;
     check_fillet(fillet, set.body_radius_m)
 }
 
 // Checks a set before its strips: the interval limit, the length of the lent scratch, and the set itself.
+#[tactic(auto, using(refusals::proofs::Given::is_answer), unfolding(crate::specs::Fins::set_check, crate::specs::Fins::own_check))]
 pub fn check_set(set: FinSet, points: &[f64], limit: usize, scratch_len: usize) -> Verdict
     ensures { IsVerdict result (set_check set points.now limit scratch_len) }
 {
-    let v = limits::check_limit(limit);
-    let v = first_refusal(v, limits::check_scratch(limit, scratch_len));
-    if is_refused(v) {
-        return v;
-    }
+    limits::check_limit(limit)?;
+    limits::check_scratch(limit, scratch_len)?;
     check_own(set, points)
 }
 
 // Checks a planform whose area alone is asked: the interval limit, the length of the lent scratch, and the planform.
+#[tactic(auto, using(refusals::proofs::Given::is_answer), unfolding(crate::specs::Fins::area_check))]
 pub fn check_area(planform: Planform, points: &[f64], limit: usize, scratch_len: usize) -> Verdict
     ensures { IsVerdict result (area_check planform points.now limit scratch_len) }
 {
-    let room = limits::check_limit(limit);
-    let room = first_refusal(room, limits::check_scratch(limit, scratch_len));
-    first_refusal(room, outlines::check_planform(planform, points))
+    limits::check_limit(limit)?;
+    limits::check_scratch(limit, scratch_len)?;
+    outlines::check_planform(planform, points)
 }

@@ -33,8 +33,8 @@ pub fn verdict_of(ending: Ending) -> Verdict
     ensures { result ≡ verdict_of ending }
 {
     match ending {
-        Ending::Accepted => Verdict::Accepted,
-        Ending::NotConverged(component) => Verdict::Refused(Refusal::NotConverged(component)),
+        Ending::Accepted => Ok(()),
+        Ending::NotConverged(component) => Err(Refusal::NotConverged(component)),
     }
 }
 

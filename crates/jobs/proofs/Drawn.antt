@@ -1,5 +1,6 @@
 -- What holds of every strip of a run that was accepted holds of those worked so far, which are its first: their pieces rise, and their
 -- samples and the numbers worked from these are finite; a sum that is finite was so after every term. Assumes nothing.
+use Rattle.std.specs.Prelude.{Ok}
 use mathlib.Core.Path.{◌≡◌, refl, sym, subst}
 use mathlib.Core.Bool.{Bool, true, false, cond, beq}
 use mathlib.Core.List.{List, [], ◌∷◌, ◌++◌}
@@ -7,7 +8,6 @@ use Prim.Native.Nat.{ℕ, ◌*◌}
 use lib.Ieee.{Float, nan, inf, fin, add}
 use Rattle.floats.specs.Operations.{◌⊕◌, bits}
 use Rattle.floats.specs.Floats.{is_finite}
-use Rattle.refusals.specs.declared.Verdict.TheVariants.{Accepted}
 use Rattle.limits.specs.Limits.{piece_numbers}
 use Rattle.fins.specs.declared.FinSet.{FinSet}
 use Rattle.strips.specs.Strips.{Run, Worked, value_from}
@@ -47,7 +47,7 @@ numbers_front : (run : Run) (front back : List Worked) → NumbersFinite run (fr
 numbers_front run front back n =
     record { pieces = each_front _ front back n.pieces; integrals = λ k l. value_front k front back (bits 0) (n.integrals k l) }
 
-module _ (set : FinSet) (points : List Float) (L : ℕ) (f64s : SetF64 set points) (made : making_check set points L ≡ Accepted) where
+module _ (set : FinSet) (points : List Float) (L : ℕ) (f64s : SetF64 set points) (made : making_check set points L ≡ Ok tt) where
   pub drawable : (calls : List Call) → Drawable set points L calls
   drawable calls =
       let accepts = made_accepted set points L made in

@@ -1,5 +1,6 @@
 -- A job's copy of the points serves as the points do: an accepted outline has no more numbers than the copy has room for, and of a
 -- trapezoid or an ellipse no point is read. Assumes nothing.
+use Rattle.std.specs.Prelude.{Ok}
 use mathlib.Core.Path.{◌≡◌, refl, ap, ◌∙◌}
 use mathlib.Core.Bool.{Bool, cond, ◌&&◌}
 use mathlib.Core.List.{List}
@@ -13,7 +14,6 @@ use lib.Ieee.{Float}
 use Rattle.floats.specs.Operations.{bits}
 use Rattle.sorting.specs.Sorted.{over}
 use Rattle.sorting.proofs.Over.{take_over}
-use Rattle.refusals.specs.declared.Verdict.TheVariants.{Accepted}
 use Rattle.refusals.proofs.Accepted.{holds, both, both_true}
 use Rattle.limits.specs.Limits.{most_points, outline_numbers}
 use Rattle.planforms.specs.declared.Planform.{Planform}
@@ -39,7 +39,7 @@ all_kept points few =
     ∙ take_over points (replicate outline_numbers (bits 0))
 
 -- "points not 3 to 64 whole pairs"
-pub outline_few : (points : List Float) → outline_check points ≡ Accepted → length points ≤ outline_numbers
+pub outline_few : (points : List Float) → outline_check points ≡ Ok tt → length points ≤ outline_numbers
 unfolding outline_check
 outline_few points h =
     let n = pair_count points in
@@ -56,7 +56,7 @@ pub record Same (planform : Planform) (points others : List Float) : Type 0 wher
   pub scale : scale_of planform others ≡ scale_of planform points
   pub heights : all_heights planform others ≡ all_heights planform points
 
-pub kept_same : (planform : Planform) (points : List Float) → planform_check planform points ≡ Accepted
+pub kept_same : (planform : Planform) (points : List Float) → planform_check planform points ≡ Ok tt
     → Same planform points (kept_of points)
 unfolding planform_check root_chord_of span_of scale_of every_y ends_at sample_of plate_of
 kept_same (Trapezoid root tip span sweep) points h = record

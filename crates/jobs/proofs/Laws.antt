@@ -1,4 +1,5 @@
 -- The calls by cases, as equations over a variable record, so that nothing inside it is rewritten. Assumes nothing.
+use Rattle.std.specs.Prelude.{Ok, Err}
 use mathlib.Core.Path.{◌≡◌, refl, sym, ap, ap₂, subst, ◌∙◌}
 use mathlib.Core.Bool.{Bool, true, false, not, cond, ◌&&◌, true≢false}
 use mathlib.Core.List.{List, [], ◌∷◌, ◌++◌}
@@ -8,8 +9,7 @@ use lib.ListN.{length, take}
 use lib.Ieee.{Float}
 use Rattle.refusals.specs.declared.Refusal.{Refusal}
 use Rattle.refusals.specs.declared.Refusal.TheVariants.{Density as not_taken}
-use Rattle.refusals.specs.declared.Verdict.{Verdict}
-use Rattle.refusals.specs.declared.Verdict.TheVariants.{Accepted, Refused}
+use Rattle.refusals.specs.Verdict.{Verdict}
 use Rattle.refusals.specs.Order.{is_refused, first_refusal}
 use Rattle.refusals.specs.Calls.{CallOf, leaves_alone, by_verdict, Does}
 use Rattle.refusals.proofs.Accepted.{both}
@@ -38,10 +38,10 @@ yes {A} {c} a b e = ap (λ (x : Bool). cond x a b) e
 pub no : {A : Type 0} {c : Bool} (a b : A) → c ≡ false → cond c a b ≡ b
 no {A} {c} a b e = ap (λ (x : Bool). cond x a b) e
 
-pub given : {A : Type 0} {v : Verdict} (a : A) (f : Refusal → A) → v ≡ Accepted → by_verdict v a f ≡ a
+pub given : {A : Type 0} {v : Verdict} (a : A) (f : Refusal → A) → v ≡ Ok tt → by_verdict v a f ≡ a
 given {A} {v} a f e = ap (λ (x : Verdict). by_verdict x a f) e
 
-pub withheld : {A : Type 0} {v : Verdict} (a : A) (f : Refusal → A) (r : Refusal) → v ≡ Refused r → by_verdict v a f ≡ f r
+pub withheld : {A : Type 0} {v : Verdict} (a : A) (f : Refusal → A) (r : Refusal) → v ≡ Err r → by_verdict v a f ≡ f r
 withheld {A} {v} a f r e = ap (λ (x : Verdict). by_verdict x a f) e
 
 -- what does one call does another that is the same
@@ -55,11 +55,11 @@ module _ (job : Job) where
   unfolding stepped_on
   on_ended e = yes _ _ e
 
-  pub on_refused : (r : Refusal) → job.ended ≡ false → limit_check job.limit ≡ Refused r → stepped_on job ≡ leaves_alone (ended_by job r)
+  pub on_refused : (r : Refusal) → job.ended ≡ false → limit_check job.limit ≡ Err r → stepped_on job ≡ leaves_alone (ended_by job r)
   unfolding stepped_on
   on_refused r e v = no _ _ e ∙ withheld _ _ r v
 
-  pub on_works : job.ended ≡ false → limit_check job.limit ≡ Accepted → stepped_on job ≡ worked_strip job
+  pub on_works : job.ended ≡ false → limit_check job.limit ≡ Ok tt → stepped_on job ≡ worked_strip job
   unfolding stepped_on
   on_works e v = no _ _ e ∙ given _ _ v
 
@@ -83,53 +83,48 @@ module _ (job : Job) (n : ℕ) where
       step_on (short_is true _ _ e refl refl) ∙ ap stepped_by (on_ended job e)
       ∙ ap (λ (b : Bool). leaves_alone (record { job = job; progress = step_after b })) e
 
-  pub step_scratch : (r : Refusal) → job.ended ≡ false → limit_check job.limit ≡ Accepted → scratch_check job.limit n ≡ Refused r
+  pub step_scratch : (r : Refusal) → job.ended ≡ false → limit_check job.limit ≡ Ok tt → scratch_check job.limit n ≡ Err r
       → step_of job n ≡ leaves_alone (record { job = job; progress = Short })
-  unfolding is_refused
-  step_scratch r e v w = step_short (short_is false Accepted (Refused r) e v w)
+  step_scratch r e v w = step_short (short_is false (Ok tt) (Err r) e v w)
 
-  pub step_limit : (r : Refusal) → job.ended ≡ false → limit_check job.limit ≡ Refused r
+  pub step_limit : (r : Refusal) → job.ended ≡ false → limit_check job.limit ≡ Err r
       → step_of job n ≡ leaves_alone (record { job = ended_by job r; progress = Ended })
-  unfolding is_refused
-  step_limit r e v = step_on (short_is false (Refused r) _ e v refl) ∙ ap stepped_by (on_refused job r e v)
+  step_limit r e v = step_on (short_is false (Err r) _ e v refl) ∙ ap stepped_by (on_refused job r e v)
 
-  pub step_works : job.ended ≡ false → run_check job.limit n ≡ Accepted → step_of job n ≡ stepped_by (worked_strip job)
-  unfolding is_refused
+  pub step_works : job.ended ≡ false → run_check job.limit n ≡ Ok tt → step_of job n ≡ stepped_by (worked_strip job)
   step_works e v =
       let (limit, scratch) = both _ _ v in
-      step_on (short_is false Accepted Accepted e limit scratch) ∙ ap stepped_by (on_works job e limit)
+      step_on (short_is false (Ok tt) (Ok tt) e limit scratch) ∙ ap stepped_by (on_works job e limit)
 
   -- a step that is not short works a strip
-  pub in_room : job.ended ≡ false → limit_check job.limit ≡ Accepted → is_short job.ended job.limit n ≡ false
-      → run_check job.limit n ≡ Accepted
-  unfolding is_refused first_refusal
+  pub in_room : job.ended ≡ false → limit_check job.limit ≡ Ok tt → is_short job.ended job.limit n ≡ false
+      → run_check job.limit n ≡ Ok tt
   in_room e v h =
       ap (λ (x : Verdict). first_refusal x (scratch_check job.limit n)) v
-      ∙ by (scratch_check job.limit n) (sym (short_is false Accepted _ e v refl) ∙ h)
+      ∙ by (scratch_check job.limit n) (sym (short_is false (Ok tt) _ e v refl) ∙ h)
     where
-      by : (w : Verdict) → is_refused w ≡ false → w ≡ Accepted
-      by Accepted k = refl
-      by (Refused r) k = absurd (true≢false k)
+      by : (w : Verdict) → is_refused w ≡ false → w ≡ Ok tt
+      by (Ok tt) k = refl
+      by (Err r) k = absurd (true≢false k)
 
   -- what holds of a step in each of its ways
   pub of_step : (P : CallOf JobStep → Type 0)
       → (job.ended ≡ true → P (leaves_alone (record { job = job; progress = Ended })))
-      → ((r : Refusal) → job.ended ≡ false → run_check job.limit n ≡ Refused r
+      → ((r : Refusal) → job.ended ≡ false → run_check job.limit n ≡ Err r
       → P (leaves_alone (record { job = job; progress = Short })))
-      → ((r : Refusal) → job.ended ≡ false → run_check job.limit n ≡ Refused r
+      → ((r : Refusal) → job.ended ≡ false → run_check job.limit n ≡ Err r
       → P (leaves_alone (record { job = ended_by job r; progress = Ended })))
-      → (job.ended ≡ false → run_check job.limit n ≡ Accepted → P (stepped_by (worked_strip job)))
+      → (job.ended ≡ false → run_check job.limit n ≡ Ok tt → P (stepped_by (worked_strip job)))
       → P (step_of job n)
-  unfolding first_refusal
   of_step P again short over works = by_end job.ended refl
     where
       checked : (v : Verdict) → limit_check job.limit ≡ v → run_check job.limit n ≡ first_refusal v (scratch_check job.limit n)
       checked v e = ap (λ (x : Verdict). first_refusal x (scratch_check job.limit n)) e
 
       by_check : job.ended ≡ false → (v w : Verdict) → limit_check job.limit ≡ v → scratch_check job.limit n ≡ w → P (step_of job n)
-      by_check e (Refused r) w p q = subst P (sym (step_limit r e p)) (over r e (checked (Refused r) p))
-      by_check e Accepted (Refused r) p q = subst P (sym (step_scratch r e p q)) (short r e (checked Accepted p ∙ q))
-      by_check e Accepted Accepted p q = subst P (sym (step_works e (checked Accepted p ∙ q))) (works e (checked Accepted p ∙ q))
+      by_check e (Err r) w p q = subst P (sym (step_limit r e p)) (over r e (checked (Err r) p))
+      by_check e (Ok tt) (Err r) p q = subst P (sym (step_scratch r e p q)) (short r e (checked (Ok tt) p ∙ q))
+      by_check e (Ok tt) (Ok tt) p q = subst P (sym (step_works e (checked (Ok tt) p ∙ q))) (works e (checked (Ok tt) p ∙ q))
 
       by_end : (b : Bool) → job.ended ≡ b → P (step_of job n)
       by_end true e = subst P (sym (step_ended e)) (again e)
@@ -192,16 +187,14 @@ module _ (job : Job) (scratch : List Float) where
   pub none_ended : job.ended ≡ true → strips_by job (step scratch) ≡ []
   none_ended e = ap (λ (b : Bool). cond (not b && (not (is_refused (run_check job.limit (length scratch))) && There')) Strip' []) e
 
-  pub none_refused : (r : Refusal) → job.ended ≡ false → run_check job.limit (length scratch) ≡ Refused r
+  pub none_refused : (r : Refusal) → job.ended ≡ false → run_check job.limit (length scratch) ≡ Err r
       → strips_by job (step scratch) ≡ []
-  unfolding is_refused
   none_refused r e v =
       ap (λ (b : Bool). cond (not b && (not (is_refused (run_check job.limit (length scratch))) && There')) Strip' []) e
       ∙ ap (λ (x : Verdict). cond (not (is_refused x) && There') Strip' []) v
 
-  pub one_if_there : job.ended ≡ false → run_check job.limit (length scratch) ≡ Accepted
+  pub one_if_there : job.ended ≡ false → run_check job.limit (length scratch) ≡ Ok tt
       → strips_by job (step scratch) ≡ cond There' Strip' []
-  unfolding is_refused
   one_if_there e v =
       ap (λ (b : Bool). cond (not b && (not (is_refused (run_check job.limit (length scratch))) && There')) Strip' []) e
       ∙ ap (λ (x : Verdict). cond (not (is_refused x) && There') Strip' []) v
@@ -212,11 +205,11 @@ module _ (job : Job) (density : Density) where
   unfolding change_of
   change_ended e = yes _ _ e
 
-  pub change_refused : (r : Refusal) → job.ended ≡ false → density_check density ≡ Refused r → change_of job density ≡ kept job r
+  pub change_refused : (r : Refusal) → job.ended ≡ false → density_check density ≡ Err r → change_of job density ≡ kept job r
   unfolding change_of
   change_refused r e v = no _ _ e ∙ withheld _ _ r v
 
-  pub change_taken : job.ended ≡ false → density_check density ≡ Accepted → change_of job density ≡ taken job density
+  pub change_taken : job.ended ≡ false → density_check density ≡ Ok tt → change_of job density ≡ taken job density
   unfolding change_of
   change_taken e v = no _ _ e ∙ given _ _ v
 
@@ -251,8 +244,8 @@ change_samples job density most so_far = by job.ended refl (density_check densit
   where
     by : (e : Bool) → job.ended ≡ e → (v : Verdict) → density_check density ≡ v → (change_of job density).reply.samples ≤ most
     by true e v d = subst (λ (s : JobReply). s.reply.samples ≤ most) (sym (change_ended job density e)) so_far
-    by false e (Refused r) d = subst (λ (s : JobReply). s.reply.samples ≤ most) (sym (change_refused job density r e d)) so_far
-    by false e Accepted d = subst (λ (s : JobReply). s.reply.samples ≤ most) (sym (change_taken job density e d)) (omega arith)
+    by false e (Err r) d = subst (λ (s : JobReply). s.reply.samples ≤ most) (sym (change_refused job density r e d)) so_far
+    by false e (Ok tt) d = subst (λ (s : JobReply). s.reply.samples ≤ most) (sym (change_taken job density e d)) (omega arith)
 
 -- ---- lists of calls, one after the other
 pub after_both : (job : Job) (calls later : List Call) → after_calls job (calls ++ later) ≡ after_calls (after_calls job calls) later

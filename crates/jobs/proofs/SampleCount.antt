@@ -1,5 +1,6 @@
 -- No call on a job answers more samples than a whole outline can take: the strips worked so far are among those of the whole run, and a
 -- job that was refused when it was made took no sample. Assumes nothing.
+use Rattle.std.specs.Prelude.{Ok, Err}
 use mathlib.Core.Path.{◌≡◌, refl, sym, ap, subst, ◌∙◌}
 use mathlib.Core.List.{List, [], ◌∷◌, ◌++◌}
 use Prim.Native.Nat.{ℕ, ◌+◌, ◌*◌, ◌≤◌}
@@ -8,8 +9,7 @@ use mathlib.Core.Bool.{true}
 use lib.ListN.{length}
 use lib.Ieee.{Float}
 use Rattle.refusals.specs.declared.Refusal.{Refusal}
-use Rattle.refusals.specs.declared.Verdict.{Verdict}
-use Rattle.refusals.specs.declared.Verdict.TheVariants.{Accepted, Refused}
+use Rattle.refusals.specs.Verdict.{Verdict}
 use Rattle.refusals.specs.Order.{is_refused}
 use Rattle.fins.specs.declared.FinSet.{FinSet}
 use Rattle.fins.proofs.Accepted.{set_limit}
@@ -36,7 +36,7 @@ samples_front [] back = omega arith
 samples_front (s ∷ front) back = omega (arith, samples_front front back)
 
 -- ---- of a set that is accepted
-module _ (set : FinSet) (points : List Float) (L : ℕ) (made : making_check set points L ≡ Accepted) where
+module _ (set : FinSet) (points : List Float) (L : ℕ) (made : making_check set points L ≡ Ok tt) where
   whole_run : samples_in (set_strips set points L) ≤ most_samples
   whole_run =
       let accepts = made_accepted set points L made in
@@ -85,15 +85,14 @@ ended_most job e few few-at-end (step scratch) =
     few-at-end)
 ended_most job e few few-at-end (change density) = change_samples job density most_samples few
 
-module _ (set : FinSet) (points : List Float) (L : ℕ) (refusal : Refusal) (made : making_check set points L ≡ Refused refusal) where
-  made_is : (made_of set points L).job ≡ (made_with (Refused refusal) set points L).job
+module _ (set : FinSet) (points : List Float) (L : ℕ) (refusal : Refusal) (made : making_check set points L ≡ Err refusal) where
+  made_is : (made_of set points L).job ≡ (made_with (Err refusal) set points L).job
   unfolding made_of
   made_is = ap (λ (v : Verdict). (made_with v set points L).job) made
 
   refused_most : (calls : List Call) (call : Call) → (answer_by (job_after set points L calls) call).figures.samples ≤ most_samples
-  unfolding is_refused
   refused_most calls call =
-      let job = (made_with (Refused refusal) set points L).job in
+      let job = (made_with (Err refusal) set points L).job in
       subst (λ (j : Job). (answer_by j call).figures.samples ≤ most_samples)
       (sym (ap (λ (j : Job). after_calls j calls) made_is ∙ ended_stays job refl calls))
       (ended_most job refl (omega arith) (omega arith) call)
@@ -102,5 +101,5 @@ pub samples_at_most : SamplesAtMost
 samples_at_most set points L calls call = by (making_check set points L) refl
   where
     by : (v : Verdict) → making_check set points L ≡ v → (answer_by (job_after set points L calls) call).figures.samples ≤ most_samples
-    by Accepted v = accepted_most set points L v calls call
-    by (Refused r) v = refused_most set points L r v calls call
+    by (Ok tt) v = accepted_most set points L v calls call
+    by (Err r) v = refused_most set points L r v calls call

@@ -1,6 +1,7 @@
 -- What holds over any calls on a job together. The record is at each point that of the strips worked so far and the
 -- density accepted last; no strip looks at the density, so a change keeps the strips. By induction over the calls.
 -- Assumes nothing.
+use Rattle.std.specs.Prelude.{Ok, Err}
 use mathlib.Core.Path.{◌≡◌, refl, sym, ap, ap₂, subst, ◌∙◌}
 use mathlib.Core.Bool.{Bool, true, false, not, cond, ◌&&◌, true≢false}
 use mathlib.Core.List.{List, [], ◌∷◌, ◌++◌, append-nil, append_assoc}
@@ -15,8 +16,7 @@ use lib.Seq.{append_snoc}
 use lib.Ieee.{Float, lt}
 use Rattle.floats.specs.Operations.{◌⊘◌, at}
 use Rattle.sorting.specs.Sorted.{over, sorted}
-use Rattle.refusals.specs.declared.Verdict.{Verdict}
-use Rattle.refusals.specs.declared.Verdict.TheVariants.{Accepted, Refused}
+use Rattle.refusals.specs.Verdict.{Verdict}
 use Rattle.refusals.specs.Order.{is_refused, first_refusal}
 use Rattle.refusals.specs.Calls.{CallOf, leaves_alone, by_verdict}
 use Rattle.refusals.proofs.Accepted.{both, each_accepts, where_each_accepts}
@@ -65,7 +65,7 @@ use Rattle.jobs.proofs.Sums.{Few, summed_with, ending_with, few_in, each_front, 
 not_both : {A : Type 0} (b : Bool) → b ≡ false → b ≡ true → A
 not_both b p q = absurd (true≢false (sym q ∙ p))
 
-module _ (set : FinSet) (points : List Float) (L : ℕ) (made : making_check set points L ≡ Accepted) where
+module _ (set : FinSet) (points : List Float) (L : ℕ) (made : making_check set points L ≡ Ok tt) where
   abbrev Run' : Run
   Run' = set_run set points L
 
@@ -92,11 +92,11 @@ module _ (set : FinSet) (points : List Float) (L : ℕ) (made : making_check set
   All' = strips_in Run'
 
   -- what making tells
-  limit_checked : limit_check L ≡ Accepted
+  limit_checked : limit_check L ≡ Ok tt
   unfolding making_check
   limit_checked = (both _ _ made).0
 
-  own_checked : own_check set points ≡ Accepted
+  own_checked : own_check set points ≡ Ok tt
   unfolding making_check
   own_checked = (both _ _ made).1
 
@@ -108,10 +108,10 @@ module _ (set : FinSet) (points : List Float) (L : ℕ) (made : making_check set
   job_at d strips = running_job (with_density set d) points L strips
 
   made_is : (made_of set points L).job ≡ job_at set.density []
-  unfolding made_of is_refused
+  unfolding made_of
   made_is = ap (λ (v : Verdict). (made_with v set points L).job) made
 
-  planform_checked : planform_check set.planform points ≡ Accepted
+  planform_checked : planform_check set.planform points ≡ Ok tt
   unfolding own_check
   planform_checked = (each_accepts (own_checks set points) own_checked).1.0
 
@@ -185,9 +185,8 @@ module _ (set : FinSet) (points : List Float) (L : ℕ) (made : making_check set
       (below_place (length strips) b) (omega arith)
 
   -- a step over scratch that is long enough works a strip where one is left
-  going_counts : (d : Density) (strips : List Worked) (n : ℕ) → run_check L n ≡ Accepted → 0 < strips_from Run' (length strips)
+  going_counts : (d : Density) (strips : List Worked) (n : ℕ) → run_check L n ≡ Ok tt → 0 < strips_from Run' (length strips)
       → counts (job_at d strips) n ≡ true
-  unfolding is_refused
   going_counts d strips n v below =
       ap (λ (x : Verdict). not (is_refused x) && has_strip (run_of_job (job_at d strips)) (Place' (length strips))) v
       ∙ ap (λ (r : Run). has_strip r (Place' (length strips))) (run_is d strips)
@@ -195,14 +194,14 @@ module _ (set : FinSet) (points : List Float) (L : ℕ) (made : making_check set
 
   pub record Going (d : Density) (strips : List Worked) (job : Job) : Type 0 where
     pub is : job ≡ job_at d strips
-    pub dense : density_check d ≡ Accepted
+    pub dense : density_check d ≡ Ok tt
     pub rest : strips ++ worked_of 7 f' L Scale' (drop (length strips) Heights') ≡ All'
     pub below : 0 < strips_from Run' (length strips)
 
   pub record Done (d : Density) (strips : List Worked) (job : Job) : Type 0 where
     pub over_now : job.ended ≡ true
     pub set_is : job.set ≡ with_density set d
-    pub dense : density_check d ≡ Accepted
+    pub dense : density_check d ≡ Ok tt
     pub whole : strips ≡ All'
     pub answer : job.outcome ≡ worked_figures (with_density set d) points L
     pub samples : job.totals.samples ≡ samples_in strips
@@ -298,8 +297,8 @@ module _ (set : FinSet) (points : List Float) (L : ℕ) (made : making_check set
         ∙ ap (λ (l : List Worked). S' ∷ l) t))
         ∙ g.rest
 
-    checked_again : first_refusal (count_check set.count) (density_check d) ≡ Accepted
-    unfolding first_refusal own_check
+    checked_again : first_refusal (count_check set.count) (density_check d) ≡ Ok tt
+    unfolding own_check
     checked_again = ap₂ first_refusal (each_accepts (own_checks set points) own_checked).0 g.dense
 
     ends : With' ≡ All' → Done d With' (ended J' (summed_of With').totals Next' (outcome_of J'.set (outline_of J') (summed_of With')))
@@ -334,7 +333,7 @@ module _ (set : FinSet) (points : List Float) (L : ℕ) (made : making_check set
           next = n;
           totals = (summed_of With').totals;
           ended = false;
-          outcome = bare_figures Accepted 0;
+          outcome = bare_figures (Ok tt) 0;
         })
         (ap Place' (sym (one_longer ∙ add-one (length strips))))
 
@@ -366,14 +365,14 @@ module _ (set : FinSet) (points : List Float) (L : ℕ) (made : making_check set
         (both_are true false p q)
     by_ending false b p q = last (sym (append-nil With') ∙ next_strips false p [] refl) (both_are false b p q)
 
-    one_strip_lem : (scratch : List Float) → run_check L (length scratch) ≡ Accepted → strips_by J' (step scratch) ≡ S' ∷ []
+    one_strip_lem : (scratch : List Float) → run_check L (length scratch) ≡ Ok tt → strips_by J' (step scratch) ≡ S' ∷ []
     one_strip_lem scratch v =
         one_if_there J' scratch refl v
         ∙ ap (λ (r : Run). cond (has_strip r Here') (strip_from r Here' ∷ []) []) (run_is d strips)
         ∙ yes _ _ (has_strip_lem (length strips) g.below)
         ∙ ap (λ (s : Worked). s ∷ []) (strip_is (length strips) (omega (arith, inside)))
 
-    works : (scratch : List Float) → run_check L (length scratch) ≡ Accepted
+    works : (scratch : List Float) → run_check L (length scratch) ≡ Ok tt
         → State d (strips ++ strips_by J' (step scratch)) (step_of J' (length scratch)).answer.job
     works scratch v =
         subst (λ (l : List Worked). State d (strips ++ l) (step_of J' (length scratch)).answer.job) (sym (one_strip_lem scratch v))
@@ -389,10 +388,9 @@ module _ (set : FinSet) (points : List Float) (L : ℕ) (made : making_check set
 
     by_check : (scratch : List Float) (v : Verdict) → run_check L (length scratch) ≡ v
         → State d (strips ++ strips_by J' (step scratch)) (step_of J' (length scratch)).answer.job
-    unfolding first_refusal
-    by_check scratch Accepted v = works scratch v
-    by_check scratch (Refused r) v =
-        let short : scratch_check L (length scratch) ≡ Refused r =
+    by_check scratch (Ok tt) v = works scratch v
+    by_check scratch (Err r) v =
+        let short : scratch_check L (length scratch) ≡ Err r =
         sym (ap (λ (x : Verdict). first_refusal x (scratch_check L (length scratch))) limit_checked) ∙ v in
         stays (strips_by J' (step scratch)) _ (none_refused J' scratch r refl v)
         (ap (λ (c : CallOf JobStep). c.answer.job) (step_scratch J' (length scratch) r refl limit_checked short))
@@ -400,13 +398,12 @@ module _ (set : FinSet) (points : List Float) (L : ℕ) (made : making_check set
     -- ---- a change of density
     changes : (other : Density) (v : Verdict) → density_check other ≡ v
         → State (density_by J' d (change other)) (strips ++ []) (change_of J' other).job
-    unfolding is_refused
-    changes other Accepted v =
+    changes other (Ok tt) v =
         let e = change_taken J' other refl v in
         subst (λ (x : JobReply). State (cond (is_taken x.reply) other d) (strips ++ []) x.job) (sym e)
         (subst (λ (m : List Worked). State other m (taken J' other).job) (sym (append-nil strips))
         (inl (record { is = refl; dense = v; rest = g.rest; below = g.below })))
-    changes other (Refused r) v =
+    changes other (Err r) v =
         let e = change_refused J' other r refl v in
         subst (λ (x : JobReply). State (cond (is_taken x.reply) other d) (strips ++ []) x.job) (sym e)
         (stays [] J' refl refl)
@@ -422,7 +419,6 @@ module _ (set : FinSet) (points : List Float) (L : ℕ) (made : making_check set
         (subst (λ (m : List Worked). State d m job) (sym (append-nil strips)) (inr e))
 
     done : (call : Call) → State (density_by job d call) (strips ++ strips_by job call) (job_by job call)
-    unfolding is_refused
     done (step scratch) =
         subst (λ (c : CallOf JobStep). State d (strips ++ strips_by job (step scratch)) c.answer.job)
         (sym (step_ended job (length scratch) e.over_now))
@@ -477,8 +473,8 @@ module _ (set : FinSet) (points : List Float) (L : ℕ) (made : making_check set
       })
 
   -- a set with a density that was accepted is accepted
-  accepted_with : (d : Density) → density_check d ≡ Accepted → (n : ℕ) → scratch_check L n ≡ Accepted
-      → set_check (with_density set d) points L n ≡ Accepted
+  accepted_with : (d : Density) → density_check d ≡ Ok tt → (n : ℕ) → scratch_check L n ≡ Ok tt
+      → set_check (with_density set d) points L n ≡ Ok tt
   unfolding own_check set_check
   accepted_with d dense n scratch =
       let (
@@ -512,17 +508,17 @@ module _ (set : FinSet) (points : List Float) (L : ℕ) (made : making_check set
         ),
       )
 
-  long_enough : scratch_check L (piece_numbers * L) ≡ Accepted
+  long_enough : scratch_check L (piece_numbers * L) ≡ Ok tt
   unfolding scratch_check
   long_enough = rw (le-leb (piece_numbers * L) (piece_numbers * L) (omega arith))
 
-  pub made_accepted : set_check set points L (piece_numbers * L) ≡ Accepted
+  pub made_accepted : set_check set points L (piece_numbers * L) ≡ Ok tt
   unfolding own_check
   made_accepted =
       accepted_with set.density (each_accepts (own_checks set points) own_checked).1.1.1.1.1.1.1.1.1.1.0 (piece_numbers * L)
       long_enough
 
-  fresh : (d : Density) → density_check d ≡ Accepted → (n : ℕ) → scratch_check L n ≡ Accepted
+  fresh : (d : Density) → density_check d ≡ Ok tt → (n : ℕ) → scratch_check L n ≡ Ok tt
       → worked_figures (with_density set d) points L ≡ set_figures (with_density set d) points L n
   unfolding set_call
   fresh d dense n scratch =
@@ -541,7 +537,7 @@ module _ (set : FinSet) (points : List Float) (L : ℕ) (made : making_check set
 
     -- what a step answers that leaves the job ended
     answers_fresh : State Density' Strips' After' → (scratch : List Float) → (step_of After' (length scratch)).answer.job.ended ≡ true
-        → (n : ℕ) → scratch_check L n ≡ Accepted
+        → (n : ℕ) → scratch_check L n ≡ Ok tt
         → ((step_of After' (length scratch)).answer.progress ≡ Ended)
         × ((step_of After' (length scratch)).answer.job.outcome ≡ set_figures (with_density set Density') points L n)
     answers_fresh s scratch e n enough =

@@ -1,5 +1,6 @@
 -- Every step writes its own strip's pieces from the start of the scratch and leaves the rest; a step without a strip
 -- writes nothing. Assumes nothing.
+use Rattle.std.specs.Prelude.{Ok, Err}
 use mathlib.Core.Path.{◌≡◌, refl, sym, ap, subst, ◌∙◌}
 use mathlib.Core.Bool.{Bool, true, false, cond}
 use mathlib.Core.List.{List, [], ◌∷◌}
@@ -8,8 +9,7 @@ use native.Mathlib.Omega.{arith}
 use lib.ListN.{length, drop, length-append, length-drop}
 use lib.Ieee.{Float}
 use Rattle.refusals.specs.declared.Refusal.{Refusal}
-use Rattle.refusals.specs.declared.Verdict.{Verdict}
-use Rattle.refusals.specs.declared.Verdict.TheVariants.{Accepted, Refused}
+use Rattle.refusals.specs.Verdict.{Verdict}
 use Rattle.refusals.specs.Calls.{CallOf, leaves_alone, by_verdict}
 use Rattle.limits.specs.Limits.{piece_numbers, limit_check}
 use Rattle.quadrature.specs.declared.Piece.{Piece}
@@ -63,8 +63,8 @@ after_no_shorter (s ∷ strips) scratch =
 pub run_no_shorter : {A : Type 0} (v : Verdict) (given : A) (withheld : Refusal → A) (strips : List Worked) (scratch : List Float)
     → length scratch ≤ length
     ((by_verdict v (record { answer = given; leaves = scratch_after strips }) (λ r. leaves_alone (withheld r))).leaves scratch)
-run_no_shorter Accepted given withheld strips scratch = after_no_shorter strips scratch
-run_no_shorter (Refused r) given withheld strips scratch = omega arith
+run_no_shorter (Ok tt) given withheld strips scratch = after_no_shorter strips scratch
+run_no_shorter (Err r) given withheld strips scratch = omega arith
 
 pub on_no_shorter : (job : Job) (scratch : List Float) → length scratch ≤ length ((stepped_on job).leaves scratch)
 unfolding stepped_on
@@ -74,7 +74,7 @@ on_no_shorter job scratch = by job.ended (limit_check job.limit)
         → length scratch ≤ length
         ((cond b (leaves_alone job) (by_verdict v (worked_strip job) (λ r. leaves_alone (ended_by job r)))).leaves scratch)
     by true v = omega arith
-    by false (Refused r) = omega arith
-    by false Accepted =
+    by false (Err r) = omega arith
+    by false (Ok tt) =
         subst (λ (l : List Float). length scratch ≤ length l) (sym (onward_writes (run_of_job job) job.next job.totals scratch))
         (after_no_shorter (cond (has_strip (run_of_job job) job.next) (strip_from (run_of_job job) job.next ∷ []) []) scratch)

@@ -1,8 +1,7 @@
 -- Calls on one job in a row, where "each call gets the record .. as the one before left it" (document 02, Paper 9), and
 -- what holds over them together.
-use Rattle.std.specs.Prelude.{◌≡◌, Bool, true, false, not, cond, ◌&&◌, List, [], ◌∷◌, ◌++◌, ℕ, zero, suc, ◌≤◌, ◌<◌, length, Float}
+use Rattle.std.specs.Prelude.{◌≡◌, Bool, true, false, not, cond, ◌&&◌, List, [], ◌∷◌, ◌++◌, ℕ, zero, suc, ◌≤◌, ◌<◌, length, Float, Ok}
 use Rattle.floats.specs.Operations.{at}
-use Rattle.refusals.specs.declared.Verdict.TheVariants.{Accepted}
 use Rattle.refusals.specs.Order.{is_refused}
 use Rattle.limits.specs.Limits.{most_samples, scratch_check}
 use Rattle.materials.specs.declared.Density.{Density}
@@ -107,7 +106,7 @@ running_job set points L strips =
       next = place_of_strip set.planform points (length strips);
       totals = (summed_of strips).totals;
       ended = false;
-      outcome = bare_figures Accepted 0;
+      outcome = bare_figures (Ok tt) 0;
     }
 
 -- how far a job is that has worked these strips of a run
@@ -158,10 +157,10 @@ module _ (set : FinSet) (points : List Float) (L : ℕ) (calls : List Call) wher
     pub reported : job_after.ended ≡ true → AreReported strips_after (set_report job_after.outcome)
     -- "The answer ending the job equals a fresh run's with the last density accepted", over any scratch that is long
     -- enough: the outcome, and what a step answers that ends the job or finds it ended
-    pub ends_as_fresh : job_after.ended ≡ true → (scratch_length : ℕ) → scratch_check L scratch_length ≡ Accepted
+    pub ends_as_fresh : job_after.ended ≡ true → (scratch_length : ℕ) → scratch_check L scratch_length ≡ Ok tt
         → job_after.outcome ≡ set_figures set_after points L scratch_length
     pub answers_as_fresh : (scratch : List Float) → (step_of job_after (length scratch)).answer.job.ended ≡ true
-        → (scratch_length : ℕ) → scratch_check L scratch_length ≡ Accepted
+        → (scratch_length : ℕ) → scratch_check L scratch_length ≡ Ok tt
         → ((step_of job_after (length scratch)).answer.progress ≡ Ended)
         × ((step_of job_after (length scratch)).answer.job.outcome ≡ set_figures set_after points L scratch_length)
     -- "A job takes as many steps as it has strips, fewer only when one is refused"
@@ -169,7 +168,7 @@ module _ (set : FinSet) (points : List Float) (L : ℕ) (calls : List Call) wher
     pub runs_on : job_after.ended ≡ false → length strips_after < strips_from (set_run set points L) 0
     -- until the job ends, a step that is lent enough works a strip
     pub works_next :
-        job_after.ended ≡ false → (scratch_length : ℕ) → run_check L scratch_length ≡ Accepted
+        job_after.ended ≡ false → (scratch_length : ℕ) → run_check L scratch_length ≡ Ok tt
         → counts job_after scratch_length ≡ true
     pub as_many_steps :
         job_after.ended ≡ true → ending_of strips_after ≡ accepted

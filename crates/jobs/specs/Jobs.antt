@@ -1,13 +1,12 @@
 -- A set worked one strip a step, its density changed while it works (document 02, Paper 9): what each call answers, in
 -- every state of the record, and what it leaves of record and scratch.
-use Rattle.std.specs.Prelude.{◌≡◌, Bool, true, false, not, cond, ◌&&◌, List, [], ◌∷◌, ℕ, suc, ◌-◌, leb, length, take, replicate, Float}
+use Rattle.std.specs.Prelude.{◌≡◌, Bool, true, false, not, cond, ◌&&◌, List, [], ◌∷◌, ℕ, suc, ◌-◌, leb, length, take, replicate, Float, Ok, Err}
 use Rattle.std.specs.Float.Ieee.{lt}
 use Rattle.floats.specs.Operations.{bits, at}
 use Rattle.sorting.specs.Sorted.{over}
 use Rattle.refusals.specs.declared.Refusal.{Refusal}
 use Rattle.refusals.specs.declared.Refusal.TheVariants.{Scratch, Density as not_taken}
-use Rattle.refusals.specs.declared.Verdict.{Verdict}
-use Rattle.refusals.specs.declared.Verdict.TheVariants.{Accepted, Refused}
+use Rattle.refusals.specs.Verdict.{Verdict}
 use Rattle.refusals.specs.Order.{is_refused, first_refusal}
 use Rattle.refusals.specs.Refusals.{number_of}
 use Rattle.refusals.specs.Given.{IsAnswer}
@@ -79,12 +78,12 @@ figures_row figures = record { number = by_verdict figures.verdict 0 number_of; 
 
 -- "the plain answers that a paper names": a number above all of the table's, and no figures
 abbrev pub plain_row : ℕ → Row
-plain_row number = record { number = number; figures = bare_figures Accepted 0 }
+plain_row number = record { number = number; figures = bare_figures (Ok tt) 0 }
 
 -- "A step lent under 16·L numbers answers 2", with "the job's samples so far"; "a step with strips still to come
 -- answers only that more remain"; the answer of a job that has ended is its outcome
 abbrev pub step_row : Progress → Job → Row
-step_row Short job = figures_row (bare_figures (Refused Scratch) job.totals.samples)
+step_row Short job = figures_row (bare_figures (Err Scratch) job.totals.samples)
 step_row More job = plain_row 1000
 step_row Ended job = figures_row job.outcome
 
@@ -144,7 +143,7 @@ worked_strip job = record { answer = after_strip job (next_strip job).answer; le
 
 -- the job ended by a refusal, with the samples so far: by 1, which no job that was made is given
 abbrev pub ended_by : Job → Refusal → Job
-ended_by job refusal = ended job job.totals job.next (bare_figures (Refused refusal) job.totals.samples)
+ended_by job refusal = ended job job.totals job.next (bare_figures (Err refusal) job.totals.samples)
 
 -- a step that is lent enough scratch: "one that repeats an answer writes nothing"
 unfoldable pub stepped_on : Job → CallOf Job
@@ -213,12 +212,12 @@ taken job density =
             ended = false;
             outcome = job.outcome;
           };
-      reply = record { verdict = Accepted; samples = 0 };
+      reply = record { verdict = (Ok tt); samples = 0 };
     }
 
 -- "leaves the old one"; "that 12" carries "the job's samples so far"
 abbrev pub kept : Job → Refusal → JobReply
-kept job refusal = record { job = job; reply = record { verdict = Refused refusal; samples = job.totals.samples } }
+kept job refusal = record { job = job; reply = record { verdict = Err refusal; samples = job.totals.samples } }
 
 -- what a call leaves and answers is the definition's, with the number and values of its verdict
 abbrev pub IsReplied : JobReply → JobReply → Type 0

@@ -119,8 +119,8 @@ pub fn figures_row(figures: Figures) -> Row
 {
     let verdict = figures.verdict;
     match verdict {
-        Verdict::Accepted => Row { number: 0, figures },
-        Verdict::Refused(refusal) => Row {
+        Ok(()) => Row { number: 0, figures },
+        Err(refusal) => Row {
             number: refusals::number(refusal),
             figures,
         },
@@ -131,7 +131,7 @@ pub fn figures_row(figures: Figures) -> Row
 pub fn plain_row(number: usize) -> Row
     ensures { result ≡ plain_row number }
 {
-    let figures = bare_figures(Verdict::Accepted, 0);
+    let figures = bare_figures(Ok(()), 0);
     Row { number, figures }
 }
 
@@ -181,10 +181,10 @@ fn conclude(set: FinSet, points: &[f64], total: Integral) -> Figures
         materials::check_density(density),
     );
     match verdict {
-        Verdict::Accepted => figures::concluded_at(set, points, total),
-        Verdict::Refused(refusal) => {
+        Ok(()) => figures::concluded_at(set, points, total),
+        Err(refusal) => {
             let totals = total.totals;
-            bare_figures(Verdict::Refused(refusal), totals.samples)
+            bare_figures(Err(refusal), totals.samples)
         }
     }
 }
@@ -253,7 +253,7 @@ fn end_refused(job: Job, refusal: Refusal) -> Job
     ensures { result ≡ ended_by job refusal }
 {
     let totals = job.totals;
-    let outcome = bare_figures(Verdict::Refused(refusal), totals.samples);
+    let outcome = bare_figures(Err(refusal), totals.samples);
     end(job, totals, job.next, outcome)
 }
 
@@ -267,11 +267,11 @@ pub fn step_in_room(job: Job, scratch: &mut [f64]) -> Job
     }
     let verdict = limits::check_limit(job.limit);
     match verdict {
-        Verdict::Accepted => {
+        Ok(()) => {
             let onward = work_next(job, scratch);
             after_strip(job, onward)
         }
-        Verdict::Refused(refusal) => end_refused(job, refusal),
+        Err(refusal) => end_refused(job, refusal),
     }
 }
 
@@ -280,8 +280,8 @@ pub fn step_in_room(job: Job, scratch: &mut [f64]) -> Job
 pub fn is_short(ended: bool, limit: usize, scratch_len: usize) -> bool
     ensures { result ≡ is_short ended limit scratch_len }
 {
-    let no_limit = refusals::is_refused(limits::check_limit(limit));
-    let few = refusals::is_refused(limits::check_scratch(limit, scratch_len));
+    let no_limit = limits::check_limit(limit).is_err();
+    let few = limits::check_scratch(limit, scratch_len).is_err();
     !ended & (!no_limit & few)
 }
 
@@ -346,7 +346,7 @@ fn take_density(job: Job, density: Density) -> JobReply
         ended: false,
         outcome,
     };
-    let verdict = Verdict::Accepted;
+    let verdict = Ok(());
     let reply = Reply {
         verdict,
         samples: 0,
@@ -358,7 +358,7 @@ fn take_density(job: Job, density: Density) -> JobReply
 fn keep_density(job: Job, refusal: Refusal) -> JobReply
     ensures { result ≡ kept job refusal }
 {
-    let verdict = Verdict::Refused(refusal);
+    let verdict = Err(refusal);
     let totals = job.totals;
     let reply = Reply {
         verdict,
@@ -377,8 +377,8 @@ pub fn change_by_value(job: Job, density: Density) -> JobReply
     }
     let verdict = materials::check_density(density);
     match verdict {
-        Verdict::Accepted => take_density(job, density),
-        Verdict::Refused(refusal) => keep_density(job, refusal),
+        Ok(()) => take_density(job, density),
+        Err(refusal) => keep_density(job, refusal),
     }
 }
 
@@ -386,8 +386,8 @@ pub fn change_by_value(job: Job, density: Density) -> JobReply
 fn check_making(set: FinSet, points: &[f64], limit: usize) -> Verdict
     ensures { result ≡ making_check set points.now limit }
 {
-    let v = limits::check_limit(limit);
-    first_refusal(v, fins::check_own(set, points))
+    limits::check_limit(limit)?;
+    fins::check_own(set, points)
 }
 
 // Makes a job: the answer is taken or the first refusal, with which the record has ended.
@@ -395,7 +395,7 @@ pub fn make(set: FinSet, points: &[f64], limit: usize) -> JobReply
     ensures { IsReplied result (made_of set points.now limit) }
 {
     let verdict = check_making(set, points, limit);
-    let ended = refusals::is_refused(verdict);
+    let ended = verdict.is_err();
     let outcome = bare_figures(verdict, 0);
     let points = copied(points);
     let totals = Totals {

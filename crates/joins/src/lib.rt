@@ -14,7 +14,7 @@ ghost use Rattle.joins.specs.Joins.{IsJoined, combine_of};
 ghost use Rattle.joins.specs.Lists.{join_list, add_each};
 
 use bodies::{BODY_NUMBERS, Body, Vector};
-use refusals::{Refusal, Verdict};
+use refusals::Refusal;
 
 // What the centre is worked from: total mass, Σ mₖ cₖ, Σ cₖ and how many bodies there are.
 #[derive(Clone, Copy)]
@@ -33,11 +33,8 @@ pub fn combine(numbers: &[f64]) -> Result<Body, Refusal>
         return Err(Refusal::Count);
     }
     let count = numbers.len() / BODY_NUMBERS;
-    let verdict = limits::check_count(count);
-    match verdict {
-        Verdict::Accepted => Ok(join_numbers(numbers, count)),
-        Verdict::Refused(refusal) => Err(refusal),
-    }
+    limits::check_count(count)?;
+    Ok(join_numbers(numbers, count))
 }
 
 // Joins bodies by their numbers, read where they lie: a list of structs would take longer to fill than to join.

@@ -1,4 +1,5 @@
 -- What a call on the screens and one job makes of the lists, and of the engine that they hold. Assumes nothing.
+use Rattle.std.specs.Prelude.{Err}
 use mathlib.Core.Path.{◌≡◌, refl, sym, ap, ap₂, subst, ◌∙◌}
 use mathlib.Core.Bool.{Bool, true, false, cond}
 use mathlib.Core.List.{List, [], ◌∷◌}
@@ -9,7 +10,6 @@ use lib.Dec.{ltb}
 use lib.ListN.{length}
 use lib.Ieee.{Float}
 use Rattle.refusals.specs.declared.Refusal.TheVariants.{Scratch}
-use Rattle.refusals.specs.declared.Verdict.TheVariants.{Refused}
 use Rattle.materials.specs.declared.Density.{Density}
 use Rattle.figures.specs.declared.Figures.{Figures}
 use Rattle.fins.specs.declared.FinSet.{FinSet}
@@ -243,7 +243,7 @@ module _ (numbers : List Float) (counts : List ℕ) where
   Row' x = turn_row x (job_at (engine_in numbers counts) (place_of (served_screen x)))
 
   module _ {t : Turn} {r : Row} where
-    pub row_short : {f : Figures} → t ≡ Short → f ≡ bare_figures (Refused Scratch) 0 → r ≡ figures_row f → r ≡ Row' t
+    pub row_short : {f : Figures} → t ≡ Short → f ≡ bare_figures (Err Scratch) 0 → r ≡ figures_row f → r ≡ Row' t
     row_short e g h = h ∙ ap figures_row g ∙ sym (ap Row' e)
 
     pub row_idle : t ≡ Idle → r ≡ plain_row 1001 → r ≡ Row' t

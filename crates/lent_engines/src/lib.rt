@@ -159,7 +159,7 @@ pub fn turn_row(numbers: &[f64], counts: &[usize], turn: Turn) -> Row
 {
     match turn {
         Turn::Short => {
-            let figures = figures::bare_figures(Verdict::Refused(Refusal::Scratch), 0);
+            let figures = figures::bare_figures(Err(Refusal::Scratch), 0);
             jobs::figures_row(figures)
         }
         Turn::Idle => jobs::plain_row(IDLE),
@@ -192,7 +192,7 @@ pub fn submit(
     let s = engines::submit_at(screens, job, screen, made);
     let reply = s.reply;
     let verdict = reply.verdict;
-    if refusals::is_refused(verdict) {
+    if verdict.is_err() {
         return reply;
     }
     let screens = s.screens;
@@ -218,7 +218,7 @@ pub fn change_density(
     let s = engines::change_at(screens, job, screen, density);
     let reply = s.reply;
     let verdict = reply.verdict;
-    if refusals::is_refused(verdict) {
+    if verdict.is_err() {
         return reply;
     }
     let screens = s.screens;

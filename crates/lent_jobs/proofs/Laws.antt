@@ -9,7 +9,7 @@ use lib.ListN.{length, take, drop, drop_of_length-le}
 use lib.Seq.{paste, take_at, drop-cons}
 use lib.Ieee.{Float, nan}
 use Rattle.floats.specs.Operations.{at, tabulate, tabulate_from}
-use Rattle.refusals.specs.declared.Verdict.{Verdict}
+use Rattle.refusals.specs.Verdict.{Verdict}
 use Rattle.refusals.proofs.Numbered.{verdict_back}
 use Rattle.limits.specs.Limits.{outline_numbers}
 use Rattle.materials.specs.declared.Density.{Density}

@@ -1,5 +1,6 @@
 -- A step that finds the job ended or is short, and a density that is refused, leave the job as it is, so that nothing
 -- has to be written. Assumes nothing.
+use Rattle.std.specs.Prelude.{Ok, Err}
 use mathlib.Core.Path.{◌≡◌, refl, sym, ap, ap₂, ◌∙◌}
 use mathlib.Core.Bool.{Bool, true, false, cond, not, ◌&&◌, true≢false}
 use mathlib.Core.List.{List}
@@ -9,8 +10,7 @@ use lib.ListN.{length}
 use lib.Ieee.{Float}
 use Rattle.floats.proofs.Bools.{and_false}
 use Rattle.refusals.specs.declared.Refusal.TheVariants.{Scratch}
-use Rattle.refusals.specs.declared.Verdict.{Verdict}
-use Rattle.refusals.specs.declared.Verdict.TheVariants.{Accepted, Refused}
+use Rattle.refusals.specs.Verdict.{Verdict}
 use Rattle.refusals.specs.Order.{is_refused}
 use Rattle.materials.specs.declared.Density.{Density}
 use Rattle.figures.specs.declared.Figures.{Figures}
@@ -35,20 +35,18 @@ use Rattle.lent_jobs.specs.Lent.{step_writes, density_taken, Holds, Leaves, Step
 module _ (job : Job) (density : Density) where
   taken_by : (b : Bool) (v : Verdict) → job.ended ≡ b → density_check density ≡ v
       → is_taken (change_of job density).reply ≡ not b && not (is_refused v)
-  unfolding is_refused
   taken_by true v e c = ap (λ (s : JobReply). is_taken s.reply) (change_ended job density e)
-  taken_by false Accepted e c = ap (λ (s : JobReply). is_taken s.reply) (change_taken job density e c)
-  taken_by false (Refused x) e c = ap (λ (s : JobReply). is_taken s.reply) (change_refused job density x e c)
+  taken_by false (Ok tt) e c = ap (λ (s : JobReply). is_taken s.reply) (change_taken job density e c)
+  taken_by false (Err x) e c = ap (λ (s : JobReply). is_taken s.reply) (change_refused job density x e c)
 
   pub taken_is : is_taken (change_of job density).reply ≡ density_taken job.ended density
   taken_is = taken_by job.ended (density_check density) refl refl
 
   kept_by : (b : Bool) (v : Verdict) → job.ended ≡ b → density_check density ≡ v → not b && not (is_refused v) ≡ false
       → (change_of job density).job ≡ job
-  unfolding is_refused
   kept_by true v e c w = ap (λ (s : JobReply). s.job) (change_ended job density e)
-  kept_by false Accepted e c w = absurd (true≢false w)
-  kept_by false (Refused x) e c w = ap (λ (s : JobReply). s.job) (change_refused job density x e c)
+  kept_by false (Ok tt) e c w = absurd (true≢false w)
+  kept_by false (Err x) e c w = ap (λ (s : JobReply). s.job) (change_refused job density x e c)
 
   pub density_kept : density_taken job.ended density ≡ false → (change_of job density).job ≡ job
   density_kept w = kept_by job.ended (density_check density) refl refl w
@@ -136,7 +134,7 @@ step_told_lem numbers counts scratch r numbers' counts' scratch' h = ap₂ step_
 
 -- what a step answers, as the code tells it
 module _ (numbers : List Float) (counts : List ℕ) {p : Progress} {r : Row} where
-  pub row_short : {f : Figures} → p ≡ Short → f ≡ bare_figures (Refused Scratch) (count_at counts 9) → r ≡ figures_row f
+  pub row_short : {f : Figures} → p ≡ Short → f ≡ bare_figures (Err Scratch) (count_at counts 9) → r ≡ figures_row f
       → r ≡ step_row p (job_in numbers counts)
   unfolding job_in
   row_short {f} e g h = h ∙ ap figures_row g ∙ sym (ap (λ (x : Progress). step_row x (job_in numbers counts)) e)

@@ -286,7 +286,7 @@ pub fn step_row(numbers: &[f64], counts: &[usize], progress: Progress) -> Row
     match progress {
         Progress::Short => {
             let figures = figures::bare_figures(
-                Verdict::Refused(Refusal::Scratch),
+                Err(Refusal::Scratch),
                 counts[SAMPLES],
             );
             jobs::figures_row(figures)
@@ -316,7 +316,7 @@ fn takes_density(ended: bool, density: Density) -> bool
     ensures { result ≡ density_taken ended density }
 {
     let verdict = materials::check_density(density);
-    !ended & !refusals::is_refused(verdict)
+    !ended & verdict.is_ok()
 }
 
 // Changes the density of the job in the lists and returns the answer. A change that is refused writes nothing.

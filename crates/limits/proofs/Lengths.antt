@@ -1,4 +1,5 @@
 -- What the limits of a length say of its size: at most 2^6, and a multiple of 2^-72; if it lies above 0, at least 2^-20. Assumes nothing.
+use Rattle.std.specs.Prelude.{Ok}
 use mathlib.Core.Path.{◌≡◌, refl, sym, ap, ◌∙◌, subst}
 use mathlib.Core.Logic.{inl, inr}
 use mathlib.Core.Bool.{Bool, true, false, ◌&&◌, ◌||◌}
@@ -21,7 +22,6 @@ use Rattle.rounding.specs.Sizes.{Below, Above, OnGrid}
 use Rattle.rounding.proofs.Signs.{minus}
 use Rattle.rounding.proofs.Gaps.{grid_of_above}
 use Rattle.rounding.proofs.Tests.{most_of_le, least_of_le}
-use Rattle.refusals.specs.declared.Verdict.TheVariants.{Accepted}
 use Rattle.refusals.proofs.Accepted.{holds, both_true}
 use Rattle.limits.specs.Limits.{shortest, longest, is_within, length_within, length_check, zero_allowed, negative_allowed}
 
@@ -120,11 +120,11 @@ not_under x h = elim (or_yes (eq x (bits 0)) (lt (bits 0) x && is_within shortes
 ]
 
 -- ---- of a field whose check accepts
-within : (field : ℕ) (x : Float) → length_check field x ≡ Accepted → length_within (zero_allowed field) (negative_allowed field) x ≡ true
+within : (field : ℕ) (x : Float) → length_check field x ≡ Ok tt → length_within (zero_allowed field) (negative_allowed field) x ≡ true
 unfolding length_check
 within field x h = holds _ _ h
 
-module _ (field : ℕ) (x : Float) (f : T (fits binary64 x)) (h : length_check field x ≡ Accepted) where
+module _ (field : ℕ) (x : Float) (f : T (fits binary64 x)) (h : length_check field x ≡ Ok tt) where
   pub length_checked : Length x
   length_checked = length_within_lem (zero_allowed field) (negative_allowed field) x f (of_true _ (within field x h))
 

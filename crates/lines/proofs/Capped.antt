@@ -1,5 +1,6 @@
 -- A count is capped at a million when it is read (`counts`). No answer, no scratch and no engine shows it: a larger limit or count is
 -- refused, by 1 or 3, and a larger number is no screen's, as it would be uncapped. Assumes nothing.
+use Rattle.std.specs.Prelude.{Ok, Err}
 use mathlib.Core.Bool.{Bool, true, false, ◌&&◌, cond}
 use mathlib.Core.List.{List, []}
 use mathlib.Core.Path.{◌≡◌, refl, sym, ap, ◌∙◌}
@@ -11,8 +12,7 @@ use lib.ListN.{length, take}
 use lib.Ieee.{Float}
 use Rattle.refusals.specs.declared.Refusal.{Refusal}
 use Rattle.refusals.specs.declared.Refusal.TheVariants.{Limit, Count, Screen as not_free, Density as not_taken}
-use Rattle.refusals.specs.declared.Verdict.{Verdict}
-use Rattle.refusals.specs.declared.Verdict.TheVariants.{Accepted, Refused}
+use Rattle.refusals.specs.Verdict.{Verdict}
 use Rattle.counts.specs.Counts.{capped}
 use Rattle.refusals.specs.Order.{refuse_unless, is_refused, first_refusal}
 use Rattle.refusals.specs.Calls.{CallOf, leaves_alone, by_verdict}
@@ -51,24 +51,24 @@ use Rattle.lines.specs.Lines.{set_effect, area_effect, submit_effect, density_ef
 
 -- ---- the two checks
 
-too_long : (L : ℕ) → 64 < L → limit_check L ≡ Refused Limit
+too_long : (L : ℕ) → 64 < L → limit_check L ≡ Err Limit
 too_long L h = ap (λ (t : Bool). refuse_unless (leb 1 L && t) Limit) (lt-leb L 64 h)
     ∙ ap (λ (t : Bool). refuse_unless t Limit) (and_false (leb 1 L))
 
-too_many : (n : ℕ) → 32 < n → count_check n ≡ Refused Count
+too_many : (n : ℕ) → 32 < n → count_check n ≡ Err Count
 too_many n h = ap (λ (t : Bool). refuse_unless (leb 1 n && t) Count) (lt-leb n 32 h)
     ∙ ap (λ (t : Bool). refuse_unless t Count) (and_false (leb 1 n))
 
 -- ---- the limit
 
 module _ (set : FinSet) (points : List Float) (m : ℕ) where
-  set_limit : (L : ℕ) → 64 < L → set_check set points L m ≡ Refused Limit
-  unfolding set_check first_refusal
+  set_limit : (L : ℕ) → 64 < L → set_check set points L m ≡ Err Limit
+  unfolding set_check
   set_limit L h = rw (too_long L h)
 
 module _ (planform : Planform) (points : List Float) (m : ℕ) where
-  area_limit : (L : ℕ) → 64 < L → area_check planform points L m ≡ Refused Limit
-  unfolding area_check first_refusal
+  area_limit : (L : ℕ) → 64 < L → area_check planform points L m ≡ Err Limit
+  unfolding area_check
   area_limit L h = rw (too_long L h)
 
 -- what is the same wherever it is refused is the same capped
@@ -111,20 +111,20 @@ with_count s n =
 
 -- 3 comes behind 1 and 2 alone
 unless : Verdict → Verdict → Verdict
-unless a b = first_refusal a (first_refusal b (Refused Count))
+unless a b = first_refusal a (first_refusal b (Err Count))
 
 module _ (set : FinSet) (points : List Float) (L m : ℕ) where
   set_count : (n : ℕ) → 32 < n → set_check (with_count set n) points L m ≡ unless (limit_check L) (scratch_check L m)
-  unfolding set_check first_refusal unless
+  unfolding set_check unless
   set_count n h = rw (too_many n h)
 
 -- so what the strips would give does not matter
 refused_alike : {A : Type 0} (x y : A) (withheld : Refusal → A) (a b : Verdict) → by_verdict (unless a b) x withheld
     ≡ by_verdict (unless a b) y withheld
-unfolding first_refusal unless
-refused_alike x y withheld Accepted Accepted = refl
-refused_alike x y withheld Accepted (Refused r) = refl
-refused_alike x y withheld (Refused r) b = refl
+unfolding unless
+refused_alike x y withheld (Ok tt) (Ok tt) = refl
+refused_alike x y withheld (Ok tt) (Err r) = refl
+refused_alike x y withheld (Err r) b = refl
 
 module _ (set : FinSet) (points : List Float) (L : ℕ) where
   -- an answer by the checks, over the count of fins
@@ -155,8 +155,8 @@ with_tubes s n =
       density = s.density;
     }
 
-tubes_many : (set : TubeFinSet) (radius : Float) → 32 < set.count → tubes_of set radius ≡ refused_body Count
-unfolding tube_check first_refusal
+tubes_many : (set : TubeFinSet) (radius : Float) → 32 < set.count → tubes_of set radius ≡ Err Count
+unfolding tube_check
 tubes_many set radius h = rw (too_many set.count h)
 
 tubes_capped : (set : TubeFinSet) (radius : Float) → tubes_of (with_tubes set (capped set.count)) radius ≡ tubes_of set radius
@@ -165,7 +165,7 @@ tubes_capped set radius =
     (λ i j h g. tubes_many (with_tubes set i) radius h ∙ sym (tubes_many (with_tubes set j) radius g)) set.count
 
 closing_capped : (radius : Float) (count : ℕ) → closing_of radius (capped count) ≡ closing_of radius count
-unfolding closing_of first_refusal
+unfolding closing_of
 closing_capped radius = at_capped (closing_of radius) 32 (omega arith) (λ i j h g. rw (too_many i h, too_many j g))
 
 -- ---- the engine: a number that is no screen's is refused whatever it is, and a set as above
@@ -173,31 +173,30 @@ closing_capped radius = at_capped (closing_of radius) 32 (omega arith) (λ i j h
 no_screen : (k : ℕ) → 8 < k → is_screen k ≡ false
 no_screen k h = ap (λ (t : Bool). leb 1 k && t) (lt-leb k 8 h) ∙ and_false (leb 1 k)
 
-making_limit : (set : FinSet) (points : List Float) (L : ℕ) → 64 < L → making_check set points L ≡ Refused Limit
-unfolding making_check first_refusal
+making_limit : (set : FinSet) (points : List Float) (L : ℕ) → 64 < L → making_check set points L ≡ Err Limit
+unfolding making_check
 making_limit set points L h = rw (too_long L h)
 
 -- 3 comes behind 1 alone
 making_count : (set : FinSet) (points : List Float) (L n : ℕ) → 32 < n → making_check (with_count set n) points L
-    ≡ first_refusal (limit_check L) (Refused Count)
-unfolding making_check own_check first_refusal
+    ≡ first_refusal (limit_check L) (Err Count)
+unfolding making_check own_check
 making_count set points L n h = rw (too_many n h)
 
-some_refusal : (v : Verdict) → (refusal : Refusal) × (first_refusal v (Refused Count) ≡ Refused refusal)
-unfolding first_refusal
-some_refusal Accepted = (Count, refl)
-some_refusal (Refused refusal) = (refusal, refl)
+some_refusal : (v : Verdict) → (refusal : Refusal) × (first_refusal v (Err Count) ≡ Err refusal)
+some_refusal (Ok tt) = (Count, refl)
+some_refusal (Err refusal) = (refusal, refl)
 
 -- a making that is refused gives its refusal alone, whatever set, points and limit are beside it
 unfoldable turned_away : Screens → Job → ℕ → Refusal → ScreenReply
 turned_away screens job screen refusal =
-    cond (is_free screens screen) (record { screens = screens; job = job; reply = record { verdict = Refused refusal; samples = 0 } })
+    cond (is_free screens screen) (record { screens = screens; job = job; reply = record { verdict = Err refusal; samples = 0 } })
     (refused_at screens job not_free)
 
 refused_making : (screens : Screens) (job : Job) (screen : ℕ) (set : FinSet) (points : List Float) (L : ℕ) (refusal : Refusal)
-    → making_check set points L ≡ Refused refusal
+    → making_check set points L ≡ Err refusal
     → submitted_of screens job screen (made_of set points L) ≡ turned_away screens job screen refusal
-unfolding submitted_of made_of turned_away is_refused
+unfolding submitted_of made_of turned_away
 refused_making screens job screen set points L refusal e = rw e
 
 module _ (engine : Engine) (points : List Float) where
@@ -212,7 +211,7 @@ module _ (engine : Engine) (points : List Float) where
       (λ i j h g. submit_outside set L i h ∙ sym (submit_outside set L j g))
 
   -- where the making is refused alike, so is the submission
-  refused_submission : (screen : ℕ) (set : FinSet) (L : ℕ) (refusal : Refusal) → making_check set points L ≡ Refused refusal
+  refused_submission : (screen : ℕ) (set : FinSet) (L : ℕ) (refusal : Refusal) → making_check set points L ≡ Err refusal
       → submit_of engine screen set points L
       ≡ called_at engine (place_of screen) (turned_away engine.screens (job_at engine (place_of screen)) screen refusal)
   unfolding submit_of

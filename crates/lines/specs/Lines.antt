@@ -1,25 +1,22 @@
 -- The answer to a line, and what it leaves in the lent scratch and in the engine of eight screens (docs/FORMS.md;
 -- document 01, "The card program" and "Refusal numbers").
-use Rattle.std.specs.Prelude.{List, [], ◌∷◌, ◌≡◌, ℕ, ◌+◌, ◌<◌, length, take, drop, get_or, Float}
+use Rattle.std.specs.Prelude.{List, [], ◌∷◌, ◌≡◌, ℕ, ◌+◌, ◌<◌, length, take, drop, get_or, Float, Result, Ok, Err}
 use Rattle.floats.specs.Operations.{at}
 use Rattle.refusals.specs.declared.Refusal.{Refusal}
 use Rattle.refusals.specs.declared.Refusal.TheVariants.{Scratch as short}
-use Rattle.refusals.specs.declared.Verdict.{Verdict}
-use Rattle.refusals.specs.declared.Verdict.TheVariants.{Accepted, Refused}
+use Rattle.refusals.specs.Verdict.{Verdict}
 use Rattle.refusals.specs.Refusals.{number_of, values_of, in_two_places}
 use Rattle.refusals.specs.Calls.{CallOf}
 use Rattle.planforms.specs.declared.Planform.{Planform}
 use Rattle.materials.specs.declared.Density.{Density}
 use Rattle.fins.specs.declared.FinSet.{FinSet}
+use Rattle.bodies.specs.declared.Body.{Body}
 use Rattle.bodies.specs.Layout.{body_numbers, numbers_of}
-use Rattle.joins.specs.declared.JoinedBody.{JoinedBody}
-use Rattle.tubes.specs.declared.ClosingRadius.{ClosingRadius}
 use Rattle.tubes.specs.Tubes.{tubes_of}
 use Rattle.tubes.specs.Closing.{closing_of}
 use Rattle.drill.specs.declared.Answer.{Answer}
 use Rattle.drill.specs.declared.Answer.TheVariants.{Inside, Edge, Outside, Refused as refused_point}
 use Rattle.drill.specs.Drill.{drill_of}
-use Rattle.moments.specs.declared.Moments.{Moments}
 use Rattle.texts.specs.Appended.{Appended}
 use Rattle.answers.specs.declared.Reply.{Reply}
 use Rattle.answers.specs.declared.Shape.{Shape}
@@ -75,8 +72,8 @@ refused_reply refusal =
 
 -- an answer, or the refusal where the verdict is one
 abbrev pub unless_refused : Verdict → Reply → Reply
-unless_refused Accepted answer = answer
-unless_refused (Refused refusal) answer = refused_reply refusal
+unless_refused (Ok tt) answer = answer
+unless_refused (Err refusal) answer = refused_reply refusal
 
 -- an answer of words alone: "the body check passed"; a submission or a change of density is taken
 abbrev pub plain_reply : Verdict → Shape → Reply
@@ -94,17 +91,18 @@ area_reply a =
     (a.intervals ∷ a.samples ∷ []))
 
 -- the answer with a body: of points joined, of a ring, or of copies and parts
-abbrev pub body_reply : Shape → JoinedBody → Reply
-body_reply shape joined = unless_refused joined.verdict (reply shape (numbers_of joined.body) [])
+abbrev pub body_reply : Shape → Result Body Refusal → Reply
+body_reply shape (Ok body) = reply shape (numbers_of body) []
+body_reply shape (Err refusal) = refused_reply refusal
 
-abbrev pub closing_reply : ClosingRadius → Reply
-closing_reply c = unless_refused c.verdict (reply ClosingShape (c.radius_m ∷ []) [])
+abbrev pub closing_reply : Result Float Refusal → Reply
+closing_reply (Ok radius) = reply ClosingShape (radius ∷ []) []
+closing_reply (Err refusal) = refused_reply refusal
 
 -- the answer with principal moments, ascending
-abbrev pub moments_reply : Moments → Reply
-moments_reply m =
-    let moments = m.moments_kg_m2 in
-    unless_refused m.verdict (reply MomentsShape (at moments 0 ∷ at moments 1 ∷ at moments 2 ∷ []) [])
+abbrev pub moments_reply : Result (List Float) Refusal → Reply
+moments_reply (Ok moments) = reply MomentsShape (at moments 0 ∷ at moments 1 ∷ at moments 2 ∷ []) []
+moments_reply (Err refusal) = refused_reply refusal
 
 abbrev pub drill_reply : Answer → Reply
 drill_reply (Inside nearest) = reply InsideShape [] (nearest ∷ [])
@@ -114,8 +112,8 @@ drill_reply (refused_point refusal) = refused_reply refusal
 
 -- the answer of a turn with which a screen's job has ended: the job's figures, or the number that refused it
 abbrev pub done_reply : ℕ → Verdict → Figures → Reply
-done_reply screen Accepted f = reply DoneShape (numbers_of f.body) (screen ∷ f.intervals ∷ f.samples ∷ [])
-done_reply screen (Refused refusal) f = reply DoneRefusedShape [] (screen ∷ number_of refusal ∷ [])
+done_reply screen (Ok tt) f = reply DoneShape (numbers_of f.body) (screen ∷ f.intervals ∷ f.samples ∷ [])
+done_reply screen (Err refusal) f = reply DoneRefusedShape [] (screen ∷ number_of refusal ∷ [])
 
 -- the answer of a turn: "A turn lent under 1,024 numbers answers 2"; "with no jobs a turn does nothing and says so";
 -- "otherwise it answers the screen served and the step's answer" (document 02, Paper 10)

@@ -73,7 +73,7 @@ pub fn check_density(density: Density) -> Verdict
             let within = (kg_m3 == 0.0) | ((LIGHTEST_KG_M3 <= kg_m3) & (kg_m3 <= HEAVIEST_KG_M3));
             refusals::refuse_unless(within, Refusal::Density)
         }
-        Density::Surface { kg_m2: _ } => Verdict::Refused(Refusal::Density),
-        Density::Line { kg_m: _ } => Verdict::Refused(Refusal::Density),
+        Density::Surface { kg_m2: _ } => Err(Refusal::Density),
+        Density::Line { kg_m: _ } => Err(Refusal::Density),
     }
 }

@@ -25,8 +25,8 @@ const LARGEST_ENTRY: f64 = 3.273390607896142e150;
 
 const SWEEPS: usize = 32;
 
-// Returns the principal moments of a tensor in kg·m², ascending. One with an entry that is not finite, or over 2^500 in magnitude, is
-// refused with 17a.
+// Returns the principal moments of a tensor in kg·m², ascending. One with an entry that is not finite, or over 2^500 in
+// magnitude, is refused with 17a.
 pub fn principal_moments(tensor: Tensor) -> Result<[f64; 3], Refusal>
     ensures { IsMoments result (principal_moments_of tensor) }
 {

@@ -1,5 +1,6 @@
 -- A trapezoid that passes the checks, tip and sweep within so many root chords, is worked in one piece by 15 samples,
 -- and is never refused 13. Assumes nothing.
+use Rattle.std.specs.Prelude.{Ok}
 use mathlib.Core.Path.{◌≡◌, refl, sym, ap, ◌∙◌, subst}
 use mathlib.Core.Bool.{Bool, true, false}
 use mathlib.Core.Logic.{inl, inr}
@@ -26,8 +27,7 @@ use Rattle.rounding.proofs.Signs.{minus, finite_no_nan, positive_plus}
 use Rattle.rounding.proofs.Signed.{over as above, under as below}
 use Rattle.rounding.proofs.Sizes.{positive_of}
 use Rattle.refusals.specs.declared.Refusal.TheVariants.{NoArea}
-use Rattle.refusals.specs.declared.Verdict.{Verdict}
-use Rattle.refusals.specs.declared.Verdict.TheVariants.{Accepted as accepted}
+use Rattle.refusals.specs.Verdict.{Verdict}
 use Rattle.refusals.specs.Order.{refuse_when, first_refusal}
 use Rattle.refusals.specs.Calls.{leaves_alone, by_verdict}
 use Rattle.refusals.proofs.Accepted.{both}
@@ -179,7 +179,7 @@ from_zero (fin true m e) f h = go (m * up e) (down e) (ltb-false _ _ h)
     go N D u = omega arith
 
 module _ (root tip span sweep : Float) (points : List Float) (f64s : PlanformF64 (Trapezoid root tip span sweep) points)
-    (checked : planform_check (Trapezoid root tip span sweep) points ≡ accepted) where
+    (checked : planform_check (Trapezoid root tip span sweep) points ≡ Ok tt) where
   abbrev planform : Planform
   planform = Trapezoid root tip span sweep
 
@@ -318,10 +318,10 @@ module _ (root tip span sweep : Float) (points : List Float) (L n : ℕ) (f64s :
   scale = scale_of shape points
 
   -- the area: figures or 8, by one piece and 15 samples
-  pub area_figures_lem : area_check shape points L n ≡ accepted → Proportions 4 4 root tip sweep
+  pub area_figures_lem : area_check shape points L n ≡ Ok tt → Proportions 4 4 root tip sweep
       → worked_area shape points L
       ≡ one_area scale (summed_of (seven_wide 3 (one_worked 3 (area_three shape points) (bits 0 ⊘ scale) (span ⊘ scale) ∷ []))).totals.value
-  unfolding concluded_area first_refusal heights_to
+  unfolding concluded_area heights_to
   area_figures_lem c q =
       let checked = area_planform shape points L n c in
       rw (
@@ -333,15 +333,15 @@ module _ (root tip span sweep : Float) (points : List Float) (L n : ℕ) (f64s :
   -- a set of square or airfoil section: figures or 8, by one piece and 15 samples
   pub set_figures_lem : (set : FinSet) → set.planform ≡ shape → NotRounded set.cross_section → T (fits binary64 set.thickness_m)
       → T (fits binary64 set.body_radius_m)
-      → set_check set points L n ≡ accepted → Proportions (tips_of set.cross_section) 4 root tip sweep
+      → set_check set points L n ≡ Ok tt → Proportions (tips_of set.cross_section) 4 root tip sweep
       → worked_figures set points L
       ≡ one_set set (root_chord_of set.planform points) scale
       (summed_of (one_worked 7 (plate_of shape points set.cross_section set.thickness_m set.body_radius_m) (bits 0 ⊘ scale)
       (span ⊘ scale) ∷ [])).totals.value
-  unfolding concluded_set first_refusal heights_to
+  unfolding concluded_set heights_to
   set_figures_lem set e s ft fr c q =
       let a = set_accepted set points L n c in
-      let checked = subst (λ (p : Planform). planform_check p points ≡ accepted) e a.planform in
+      let checked = subst (λ (p : Planform). planform_check p points ≡ Ok tt) e a.planform in
       let thick = field_above thickness_field set.thickness_m ft a.thickness refl refl in
       let out = height_checked body_radius_field set.body_radius_m fr a.radius refl refl in
       let strips : set_strips set points L ≡ one_worked 7

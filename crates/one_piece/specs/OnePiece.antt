@@ -1,13 +1,12 @@
 -- Which trapezoids are worked in one piece, whatever their span, thickness and distance from the axis: those of square
 -- or airfoil section whose tip and sweep are a few root chords.
-use Rattle.std.specs.Prelude.{◌≡◌, false, List, ◌⊎◌, ℕ, ◌*◌, T, length, Float}
+use Rattle.std.specs.Prelude.{◌≡◌, false, List, ◌⊎◌, ℕ, ◌*◌, T, length, Float, Ok, Err}
 use Rattle.std.specs.Float.{binary64}
 use Rattle.std.specs.Float.Ieee.{fits, lt}
 use Rattle.std.specs.Float.Ieee.Positive.{num, den}
 use Rattle.floats.specs.Operations.{bits}
 use Rattle.rounding.specs.Sizes.{AtMost}
 use Rattle.refusals.specs.declared.Refusal.TheVariants.{NoArea}
-use Rattle.refusals.specs.declared.Verdict.TheVariants.{Accepted, Refused}
 use Rattle.limits.specs.Limits.{piece_samples}
 use Rattle.sections.specs.declared.Section.{Section}
 use Rattle.sections.specs.declared.Section.TheVariants.{Square, Rounded, Airfoil, AirfoilOpen}
@@ -47,7 +46,7 @@ AreF64s root tip span sweep =
 -- 15 samples were taken, and what is reported is figures by one piece, or 8: never 13
 pub record OnePiece (report : Report) : Type 0 where
   pub fifteen : report.samples ≡ piece_samples
-  pub figures_or_8 : ((report.verdict ≡ Accepted) × (report.intervals ≡ 1)) ⊎ (report.verdict ≡ Refused NoArea)
+  pub figures_or_8 : ((report.verdict ≡ Ok tt) × (report.intervals ≡ 1)) ⊎ (report.verdict ≡ Err NoArea)
 
 -- the statement for an area: the call (`figures::geometry`) answered r for a trapezoid that passes the checks, with a
 -- tip of up to 4 root chords and a sweep of 0 to 4
@@ -56,7 +55,7 @@ AreaOnePiece =
     (root tip span sweep : Float) (points : List Float) (L : ℕ) (entry : List Float) (r : Area) (exit : List Float)
     → AreF64s root tip span sweep
     → AreaAnswers (Trapezoid root tip span sweep) points L entry r exit
-    → area_check (Trapezoid root tip span sweep) points L (length entry) ≡ Accepted
+    → area_check (Trapezoid root tip span sweep) points L (length entry) ≡ Ok tt
     → Proportions 4 4 root tip sweep
     → OnePiece (area_report r)
 
@@ -71,6 +70,6 @@ SetOnePiece =
     → AreF64s root tip span sweep
     → T (fits binary64 set.thickness_m) × T (fits binary64 set.body_radius_m)
     → SetAnswers set points L entry r exit
-    → set_check set points L (length entry) ≡ Accepted
+    → set_check set points L (length entry) ≡ Ok tt
     → Proportions (tips_of set.cross_section) 4 root tip sweep
     → OnePiece (set_report r)

@@ -1,5 +1,6 @@
 -- The strips of an outline whose edges are in order, each of one piece: what each is worth, and the exact area that they add up to. Assumes
 -- nothing.
+use Rattle.std.specs.Prelude.{Ok}
 use mathlib.Core.Path.{◌≡◌, refl, sym, ap, ◌∙◌, subst}
 use mathlib.Core.Bool.{Bool, true, false, cond}
 use mathlib.Core.List.{List, [], ◌∷◌}
@@ -25,7 +26,6 @@ use Rattle.planforms.specs.declared.Planform.TheVariants.{Outline}
 use Rattle.planforms.specs.Planforms.{x_at, height_at, pair_count, span_of}
 use Rattle.planforms.proofs.Sized.{Sized}
 use Rattle.outlines.specs.Outlines.{planform_check}
-use Rattle.refusals.specs.declared.Verdict.TheVariants.{Accepted}
 use Rattle.integrands.specs.Integrands.{scale_of, area_three}
 use Rattle.integrands.proofs.Scales.{Scale}
 use Rattle.quadrature.specs.Rule.{half_sum, half_width, weighted_to, kronrod_weight}
@@ -62,7 +62,7 @@ use Rattle.outline_accuracy.proofs.StripSums.{Worth, Worths, numbers, numbers_is
 use Rattle.outline_accuracy.proofs.Corners as Corners
 use Rattle.outline_accuracy.proofs.ExactFractions.{in_order, less_fraction, line_fraction, high_number}
 
-module _ (points : List Float) (f64s : (i : ℕ) → T (fits binary64 (at points i))) (check : planform_check Outline points ≡ Accepted)
+module _ (points : List Float) (f64s : (i : ℕ) → T (fits binary64 (at points i))) (check : planform_check Outline points ≡ Ok tt)
     (sized : Sized Outline points) (few : leb (pair_count points) 64 ≡ true) (b d : ℕ) (L_ranges : Ranges 32 (b per d))
     (each_x : (i : ℕ) → i < pair_count points → AtMost b d (x_at points i)) (scaled : Scale (scale_of Outline points)) (limit : ℕ)
     (above : lt (bits 0) (span_of Outline points) ≡ true) where

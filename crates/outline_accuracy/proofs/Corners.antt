@@ -1,4 +1,5 @@
 -- The corners of an accepted outline, and its break heights: sizes, order, and that no corner is between two neighbours. Assumes nothing.
+use Rattle.std.specs.Prelude.{Ok}
 use mathlib.Core.Path.{◌≡◌, refl, sym, ap, ◌∙◌, subst}
 use mathlib.Core.Bool.{Bool, true, false, cond, ◌||◌}
 use mathlib.Core.List.{List, [], ◌∷◌}
@@ -17,7 +18,6 @@ use Rattle.floats.proofs.Order.{ne_itself}
 use Rattle.rounding.specs.Sizes.{AtMost, Below}
 use Rattle.rounding.proofs.Signs.{finite_no_nan}
 use Rattle.rounding.proofs.Sizes.{positive_of, zero_below, weaker}
-use Rattle.refusals.specs.declared.Verdict.TheVariants.{Accepted}
 use Rattle.refusals.proofs.Accepted.{both, each_accepted}
 use Rattle.limits.specs.Limits.{point_xfield, point_yfield, length_check}
 use Rattle.limits.proofs.Lengths.{PositiveLength, above_checked}
@@ -48,7 +48,7 @@ pub under_span : (span y : Float) → T (positive span) → T (finite span) → 
     (number (num span) 0 (den span) less value_of y)
 under_span span y p f g e = subst (λ (v : Number). NotBelow (v less value_of y)) (positive_value span p) (unordered_not_below y span g f e)
 
-module _ (points : List Float) (f64s : (i : ℕ) → T (fits binary64 (at points i))) (check : planform_check Outline points ≡ Accepted)
+module _ (points : List Float) (f64s : (i : ℕ) → T (fits binary64 (at points i))) (check : planform_check Outline points ≡ Ok tt)
     (sized : Sized Outline points) (few : leb (pair_count points) 64 ≡ true) where
   abbrev n : ℕ
   n = pair_count points
@@ -56,7 +56,7 @@ module _ (points : List Float) (f64s : (i : ℕ) → T (fits binary64 (at points
   abbrev span : Float
   span = span_of Outline points
 
-  point_accepted : (k : ℕ) → k < n → point_check points k ≡ Accepted
+  point_accepted : (k : ℕ) → k < n → point_check points k ≡ Ok tt
   unfolding planform_check outline_check
   point_accepted k l =
       rw (let e : 0 + k ≡ k = omega arith in e) at (each_accepted (point_check points) 0 n
@@ -72,7 +72,7 @@ module _ (points : List Float) (f64s : (i : ℕ) → T (fits binary64 (at points
   height_least : (i : ℕ) → i < n → Least (height_at points i)
   height_least i l p =
       let xs = both (length_check point_xfield (x_at points i)) _ (point_accepted i l) in
-      let ys = both (length_check point_yfield (height_at points i)) Accepted xs.1 in
+      let ys = both (length_check point_yfield (height_at points i)) (Ok tt) xs.1 in
       above_checked point_yfield (height_at points i) (f64s (2 * i + 1)) ys.0 p
 
   either : (P : Float → Type 0) (b c : Bool) (x y : Float) → P x → P y → P (cond b y (cond c y x))

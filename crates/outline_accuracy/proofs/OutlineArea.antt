@@ -1,4 +1,5 @@
 -- The area that the call gives for an outline is near the exact one. Assumes nothing.
+use Rattle.std.specs.Prelude.{Ok}
 use mathlib.Core.Path.{◌≡◌, refl, sym, ap, ◌∙◌, subst}
 use mathlib.Core.Bool.{Bool, true, false, not}
 use mathlib.Core.List.{List, [], ◌∷◌}
@@ -26,8 +27,7 @@ use Rattle.planforms.proofs.Sized.{Sized, span_sized}
 use Rattle.rounding.proofs.Signs.{finite_no_nan}
 use Rattle.outlines.specs.Outlines.{planform_check}
 use Rattle.refusals.specs.Given.{Gives}
-use Rattle.refusals.specs.declared.Verdict.{Verdict}
-use Rattle.refusals.specs.declared.Verdict.TheVariants.{Accepted}
+use Rattle.refusals.specs.Verdict.{Verdict}
 use Rattle.breaks.specs.Breaks.{break_heights}
 use Rattle.breaks.proofs.Bounded.{breaks_rise}
 use Rattle.breaks.proofs.Listed.{most_breaks}
@@ -92,7 +92,7 @@ unfolding Rising below_all
 first_rises h k l r = and_left (lt h k) (below_all h l) r.0
 
 -- given figures, the last strip was accepted
-ended_so : (e : Ending) (v : Verdict) → Reported e v → v ≡ Accepted → e ≡ ended
+ended_so : (e : Ending) (v : Verdict) → Reported e v → v ≡ Ok tt → e ≡ ended
 ended_so ended v r a = refl
 ended_so (NotConverged c) v r a = absurd (subst (λ (v : Verdict). Gives v 13 (c ∷ [])) a r)
 
@@ -109,7 +109,7 @@ module _ (points : List Float) (L : ℕ) (entry : List Float) (r : Area) (exit :
   figures : Given Outline points L (length entry) r
   figures = area_given Outline points L (length entry) r g.answers.call.0 g.given
 
-  check : planform_check Outline points ≡ Accepted
+  check : planform_check Outline points ≡ Ok tt
   check = area_planform Outline points L (length entry) figures.accepted
 
   sized : Sized Outline points

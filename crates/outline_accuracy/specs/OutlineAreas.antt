@@ -1,14 +1,13 @@
 -- How near the area of an outline is to the exact one: strip by strip, between the heights of its corners, for outlines
 -- whose strips are each crossed by two edges that keep their order. An outline that rises to one tip and falls again
 -- has only such strips, as long as no two of its edges cross; the checks ask the latter too, in f64s.
-use Rattle.std.specs.Prelude.{◌≡◌, cond, List, [], ◌∷◌, ◌⊎◌, ℕ, zero, suc, ◌+◌, ◌*◌, ◌^◌, ◌<◌, T, pos, negsuc, neg_ℤ, length, Float}
+use Rattle.std.specs.Prelude.{◌≡◌, cond, List, [], ◌∷◌, ◌⊎◌, ℕ, zero, suc, ◌+◌, ◌*◌, ◌^◌, ◌<◌, T, pos, negsuc, neg_ℤ, length, Float, Ok}
 use Rattle.std.specs.Float.{binary64}
 use Rattle.std.specs.Float.Ieee.{fits}
 use Rattle.floats.specs.Fractions.{Fraction, ◌over◌, ◌plus◌, minus, ◌times◌, value_of}
 use Rattle.floats.specs.Operations.{at}
 use Rattle.rounding.specs.Sizes.{AtMost}
 use Rattle.rounding_error.specs.Distances.{◌at_most◌, Within}
-use Rattle.refusals.specs.declared.Verdict.TheVariants.{Accepted}
 use Rattle.segments.specs.Segments.{next}
 use Rattle.planforms.specs.declared.Planform.TheVariants.{Outline}
 use Rattle.planforms.specs.Planforms.{x_at, height_at, pair_count, span_of}
@@ -82,7 +81,7 @@ area_between points (h ∷ k ∷ heights) o = strip_area points h k o.0 plus are
 pub record OutlineGiven (points : List Float) (L : ℕ) (entry : List Float) (r : Area) (exit : List Float) : Type 0 where
   pub f64s : (i : ℕ) → T (fits binary64 (at points i))
   pub answers : AreaAnswers Outline points L entry r exit
-  pub given : r.verdict ≡ Accepted
+  pub given : r.verdict ≡ Ok tt
   pub one_piece_each : r.intervals + 1 ≡ length (break_heights Outline points)
 
 -- no point's |x| is over b / d

@@ -12,11 +12,11 @@ ghost use Rattle.segments.specs.Segments.{segments_touch};
 ghost use Rattle.segments.specs.Places.{place_of};
 ghost use Rattle.outlines.specs.Outlines.{point_check, points_check, ends_check, point_at, edge_at, pair_check};
 ghost use Rattle.outlines.specs.Outlines.{edge_check, edges_check, edge_term, twice_area, twice_area_check};
-ghost use Rattle.outlines.specs.Outlines.{outline_check, trapezoid_check, planform_check};
+ghost use Rattle.outlines.specs.Outlines.{outline_check, trapezoid_check, ellipse_check, planform_check};
 
 use limits::check_length;
 use planforms::Planform;
-use refusals::{Refusal, Verdict, first_refusal};
+use refusals::{Refusal, Verdict};
 use segments::{Place, Point, Segment};
 
 fn point_at(points: &[f64], i: usize) -> Point
@@ -47,7 +47,7 @@ fn check_pair(points: &[f64], i: usize, j: usize) -> Verdict
 {
     let n = points.len() / 2;
     if (j == i + 1) | ((i == 0) & (j + 1 == n)) {
-        return Verdict::Accepted;
+        return Ok(());
     }
     let touch = segments::segments_touch(edge_at(points, i), edge_at(points, j));
     refusals::refuse_when(touch, Refusal::Touches(i, j))
@@ -76,14 +76,14 @@ fn check_edge(points: &[f64], i: usize) -> Verdict
     let n = points.len() / 2;
     let mut j = i + 2;
     if n <= j {
-        return Verdict::Accepted;
+        return Ok(());
     }
     let edge = edge_at(points, i);
     let mut from = segments::place_beside(edge, point_at(points, j));
     while j + 1 < n {
         let to = segments::place_beside(edge, point_at(points, j + 1));
         if edge_touches(points, j, edge, from, to) {
-            return Verdict::Refused(Refusal::Touches(i, j));
+            return Err(Refusal::Touches(i, j));
         }
         from = to;
         j += 1;
@@ -98,12 +98,12 @@ fn check_edges(points: &[f64]) -> Verdict
     let n = points.len() / 2;
     let mut i: usize = 0;
     while i < n {
-        if let Verdict::Refused(refusal) = check_edge(points, i) {
-            return Verdict::Refused(refusal);
+        if let Err(refusal) = check_edge(points, i) {
+            return Err(refusal);
         }
         i += 1;
     }
-    Verdict::Accepted
+    Ok(())
 }
 
 // Checks that x, then y, of point i is within its limits, else refuses with 4.
@@ -111,8 +111,8 @@ fn check_point(points: &[f64], i: usize) -> Verdict
     requires { i < pair_count points.now }
     ensures { result ≡ point_check points.now i }
 {
-    let v = check_length(limits::POINT_X, points[2 * i]);
-    first_refusal(v, check_length(limits::POINT_Y, points[2 * i + 1]))
+    check_length(limits::POINT_X, points[2 * i])?;
+    check_length(limits::POINT_Y, points[2 * i + 1])
 }
 
 // Checks that every point is within its limits, else refuses with 4.
@@ -122,12 +122,12 @@ fn check_points(points: &[f64]) -> Verdict
     let n = points.len() / 2;
     let mut i: usize = 0;
     while i < n {
-        if let Verdict::Refused(refusal) = check_point(points, i) {
-            return Verdict::Refused(refusal);
+        if let Err(refusal) = check_point(points, i) {
+            return Err(refusal);
         }
         i += 1;
     }
-    Verdict::Accepted
+    Ok(())
 }
 
 // Checks that the outline starts at (0, 0) and ends at (c, 0) with c > 0, else refuses with 6.
@@ -172,26 +172,34 @@ fn check_twice_area(points: &[f64]) -> Verdict
 
 // Checks an outline and returns its first refusal, whatever slice is lent. Only with 3 to `MOST_POINTS` whole points is
 // anything else looked at.
+#[tactic(auto, unfolding(crate::specs::Outlines::outline_check))]
 fn check_outline(points: &[f64]) -> Verdict
     ensures { result ≡ outline_check points.now }
 {
     let n = points.len() / 2;
     if !((points.len() % 2 == 0) & (3 <= n) & (n <= limits::MOST_POINTS)) {
-        return Verdict::Refused(Refusal::Points);
+        return Err(Refusal::Points);
     }
-    let v = check_points(points);
-    let v = first_refusal(v, check_ends(points));
-    let v = first_refusal(v, check_edges(points));
-    first_refusal(v, check_twice_area(points))
+    check_points(points)?;
+    check_ends(points)?;
+    check_edges(points)?;
+    check_twice_area(points)
 }
 
 fn check_trapezoid(root_chord_m: f64, tip_chord_m: f64, span_m: f64, sweep_m: f64) -> Verdict
     ensures { result ≡ trapezoid_check root_chord_m tip_chord_m span_m sweep_m }
 {
-    let v = check_length(limits::ROOT_CHORD, root_chord_m);
-    let v = first_refusal(v, check_length(limits::TIP_CHORD, tip_chord_m));
-    let v = first_refusal(v, check_length(limits::SPAN, span_m));
-    first_refusal(v, check_length(limits::SWEEP, sweep_m))
+    check_length(limits::ROOT_CHORD, root_chord_m)?;
+    check_length(limits::TIP_CHORD, tip_chord_m)?;
+    check_length(limits::SPAN, span_m)?;
+    check_length(limits::SWEEP, sweep_m)
+}
+
+fn check_ellipse(root_chord_m: f64, span_m: f64) -> Verdict
+    ensures { result ≡ ellipse_check root_chord_m span_m }
+{
+    check_length(limits::ROOT_CHORD, root_chord_m)?;
+    check_length(limits::SPAN, span_m)
 }
 
 // Checks a planform and returns its first refusal: of its lengths in the order listed, or of the outline's own checks.
@@ -208,10 +216,7 @@ pub fn check_planform(planform: Planform, points: &[f64]) -> Verdict
         Planform::Ellipse {
             root_chord_m,
             span_m,
-        } => {
-            let v = check_length(limits::ROOT_CHORD, root_chord_m);
-            first_refusal(v, check_length(limits::SPAN, span_m))
-        }
+        } => check_ellipse(root_chord_m, span_m),
         Planform::Outline => check_outline(points),
     }
 }

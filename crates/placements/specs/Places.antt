@@ -1,10 +1,9 @@
 -- Places of copies across the axis, and a list of them as numbers (document 02, Paper 13; mass.rs, `Placement`).
-use Rattle.std.specs.Prelude.{Bool, true, false, cond, ◌&&◌, List, [], ◌∷◌, ℕ, ◌+◌, ◌*◌, ◌/◌, ◌%◌, eqb, length, Float}
+use Rattle.std.specs.Prelude.{Bool, true, false, cond, ◌&&◌, List, [], ◌∷◌, ℕ, ◌+◌, ◌*◌, ◌/◌, ◌%◌, eqb, length, Float, Err}
 use Rattle.std.specs.Float.Ieee.{eq}
 use Rattle.floats.specs.Operations.{bits, at}
 use Rattle.refusals.specs.declared.Refusal.TheVariants.{Count}
-use Rattle.refusals.specs.declared.Verdict.{Verdict}
-use Rattle.refusals.specs.declared.Verdict.TheVariants.{Refused}
+use Rattle.refusals.specs.Verdict.{Verdict}
 use Rattle.refusals.specs.Order.{first_of, first_between}
 use Rattle.limits.specs.Limits.{offset_field, roll_field, length_check, angle_check, count_check}
 use Rattle.placements.specs.declared.Placement.{Placement}
@@ -44,7 +43,7 @@ place_at false numbers k = place (at numbers (2 * k)) (at numbers (2 * k + 1)) (
 -- "Lists hold 1 to 32 places, 3 otherwise"; a list that is no whole number of places is refused 3 too
 abbrev pub list_check : Bool → List Float → Verdict
 list_check rolled numbers =
-    cond (is_whole_list rolled numbers) (count_check (place_count rolled numbers)) (Refused Count)
+    cond (is_whole_list rolled numbers) (count_check (place_count rolled numbers)) (Err Count)
 
 -- "Offsets obey the length limits, zero and negative allowed, with field 19 for each number of an offset; roll obeys
 -- the angle limit, field 20"

@@ -7,10 +7,10 @@
 // up to rounding (docs/DIFFERENCES.md).
 #![tactic(auto)]
 
-ghost use Rattle.std.specs.Prelude.{true, false, ◌≡◌, ◌*◌, ◌≤◌, ◌<◌, length};
+ghost use Rattle.std.specs.Prelude.{true, false, ◌≡◌, ◌*◌, ◌≤◌, ◌<◌, length, Ok};
 ghost use Rattle.bodies.specs.Layout.{body_numbers};
 ghost use Rattle.joins.specs.Flat.{with_bodies};
-ghost use Rattle.joins.specs.Joins.{accepted_body, joined_of, IsJoined};
+ghost use Rattle.joins.specs.Joins.{joined_of, IsJoined};
 ghost use Rattle.placements.specs.Places.{is_here, place_count, is_whole_list, place_at, list_check, place_check};
 ghost use Rattle.placements.specs.Places.{places_check};
 ghost use Rattle.placements.specs.Copies.{turned_copy, copy_at, placed_of, copies_check, copies_of, copied_of};
@@ -20,9 +20,8 @@ ghost use Rattle.placements.specs.Parts.{without_of};
 ghost use Rattle.refusals.specs.Order.{first_of};
 
 use bodies::{BODY_NUMBERS, Body, Vector, offset_tensor};
-use joins::JoinedBody;
 use limits::check_length;
-use refusals::{Refusal, Verdict, first_refusal};
+use refusals::{Refusal, Verdict};
 
 // How many numbers hold a copy for each place that a list may have.
 const COPIES_NUMBERS: usize = 32 * BODY_NUMBERS;
@@ -56,9 +55,9 @@ impl Placement {
     fn check(self) -> Verdict
         ensures { result ≡ place_check self }
     {
-        let v = check_length(limits::OFFSET, self.offset_x_m);
-        let v = first_refusal(v, check_length(limits::OFFSET, self.offset_y_m));
-        first_refusal(v, limits::check_angle(limits::ROLL, self.roll_rad))
+        check_length(limits::OFFSET, self.offset_x_m)?;
+        check_length(limits::OFFSET, self.offset_y_m)?;
+        limits::check_angle(limits::ROLL, self.roll_rad)
     }
 }
 
@@ -139,7 +138,7 @@ fn check_list(places: &[f64], rolled: bool) -> Verdict
     ensures { result ≡ list_check rolled places.now }
 {
     if !is_whole_list(places, rolled) {
-        return Verdict::Refused(Refusal::Count);
+        return Err(Refusal::Count);
     }
     limits::check_count(count_places(places, rolled))
 }
@@ -150,21 +149,20 @@ fn check_places(places: &[f64], rolled: bool) -> Verdict
     let n = count_places(places, rolled);
     for k in 0..n {
         let place = place_at(places, rolled, k);
-        if let Verdict::Refused(refusal) = place.check() {
-            return Verdict::Refused(refusal);
+        if let Err(refusal) = place.check() {
+            return Err(refusal);
         }
     }
-    Verdict::Accepted
+    Ok(())
 }
 
 // Checks the body, the list's length and then its places. No place is looked at before the length has passed.
+#[tactic(auto, unfolding(crate::specs::Copies::copies_check))]
 fn check_copies(body: Body, places: &[f64], rolled: bool) -> Verdict
     ensures { result ≡ copies_check rolled body places.now }
 {
-    let v = first_refusal(body_check::check(body), check_list(places, rolled));
-    if refusals::is_refused(v) {
-        return v;
-    }
+    body_check::check(body)?;
+    check_list(places, rolled)?;
     check_places(places, rolled)
 }
 
@@ -180,7 +178,7 @@ fn write_copies(bodies: &mut [f64], body: Body, places: &[f64], rolled: bool, co
     }
 }
 
-fn joined_copies(body: Body, places: &[f64], rolled: bool, count: usize) -> JoinedBody
+fn joined_copies(body: Body, places: &[f64], rolled: bool, count: usize) -> Result<Body, Refusal>
     requires { (count ≤ 32) × (count ≤ place_count rolled places.now) }
     ensures { result ≡ joined_of (λ k. copy_at body (place_at rolled places.now k)) count }
 {
@@ -191,38 +189,36 @@ fn joined_copies(body: Body, places: &[f64], rolled: bool, count: usize) -> Join
 }
 
 // Returns the copies joined. A single one that neither moves nor turns is the body itself.
-fn placed_copies(body: Body, places: &[f64], rolled: bool) -> JoinedBody
+fn placed_copies(body: Body, places: &[f64], rolled: bool) -> Result<Body, Refusal>
     requires { (1 ≤ place_count rolled places.now) × (place_count rolled places.now ≤ 32) }
-    ensures { result ≡ accepted_body
+    ensures { result ≡ Ok
         (placed_of body (place_at rolled places.now) (place_count rolled places.now)) }
 {
     let count = count_places(places, rolled);
     let first = place_at(places, rolled, 0);
     if (count == 1) & first.is_here() {
-        return joins::accepted(body);
+        return Ok(body);
     }
     joined_copies(body, places, rolled, count)
 }
 
-fn copies(body: Body, places: &[f64], rolled: bool) -> JoinedBody
+#[tactic(auto, unfolding(crate::specs::Copies::copies_of))]
+fn copies(body: Body, places: &[f64], rolled: bool) -> Result<Body, Refusal>
     ensures { IsJoined result (copies_of rolled body places.now) }
 {
-    let verdict = check_copies(body, places, rolled);
-    match verdict {
-        Verdict::Accepted => placed_copies(body, places, rolled),
-        Verdict::Refused(refusal) => joins::refused(refusal),
-    }
+    check_copies(body, places, rolled)?;
+    placed_copies(body, places, rolled)
 }
 
 // Returns copies of a body joined, one moved across the axis by each x and y of a list.
-pub fn copied(body: Body, offsets_m: &[f64]) -> JoinedBody
+pub fn copied(body: Body, offsets_m: &[f64]) -> Result<Body, Refusal>
     ensures { IsJoined result (copied_of body offsets_m.now) }
 {
     copies(body, offsets_m, false)
 }
 
 // Returns copies of a body joined, one at each place of a list: x, y and roll.
-pub fn placed(body: Body, places: &[f64]) -> JoinedBody
+pub fn placed(body: Body, places: &[f64]) -> Result<Body, Refusal>
     ensures { IsJoined result (placed_at_of body places.now) }
 {
     copies(body, places, true)
@@ -249,31 +245,28 @@ fn part_moved(whole: Body, part: Body, offset_m: Vector) -> Body
 fn check_offset(offset_m: Vector) -> Verdict
     ensures { result ≡ first_of (offset_checks offset_m) }
 {
-    let v = check_length(limits::OFFSET, offset_m.x);
-    let v = first_refusal(v, check_length(limits::OFFSET, offset_m.y));
-    first_refusal(v, check_length(limits::OFFSET, offset_m.z))
+    check_length(limits::OFFSET, offset_m.x)?;
+    check_length(limits::OFFSET, offset_m.y)?;
+    check_length(limits::OFFSET, offset_m.z)
 }
 
+#[tactic(auto, unfolding(crate::specs::Parts::moved_check))]
 fn check_moved(whole: Body, part: Body, offset_m: Vector) -> Verdict
     ensures { result ≡ moved_check whole part offset_m }
 {
-    let v = first_refusal(body_check::check(whole), body_check::check(part));
-    let v = first_refusal(v, check_offset(offset_m));
-    first_refusal(
-        v,
-        refusals::refuse_when(whole.mass_kg == 0.0, Refusal::NotHeavier),
-    )
+    body_check::check(whole)?;
+    body_check::check(part)?;
+    check_offset(offset_m)?;
+    refusals::refuse_when(whole.mass_kg == 0.0, Refusal::NotHeavier)
 }
 
 // Returns the whole with one of its parts moved by an offset inside it.
-pub fn with_part_moved(whole: Body, part: Body, offset_m: Vector) -> JoinedBody
+#[tactic(auto, unfolding(crate::specs::Parts::moved_of))]
+pub fn with_part_moved(whole: Body, part: Body, offset_m: Vector) -> Result<Body, Refusal>
     ensures { IsJoined result (moved_of whole part offset_m) }
 {
-    let verdict = check_moved(whole, part, offset_m);
-    match verdict {
-        Verdict::Accepted => joins::accepted(part_moved(whole, part, offset_m)),
-        Verdict::Refused(refusal) => joins::refused(refusal),
-    }
+    check_moved(whole, part, offset_m)?;
+    Ok(part_moved(whole, part, offset_m))
 }
 
 fn part_off(whole: Body, part: Body) -> Body
@@ -292,21 +285,20 @@ fn part_off(whole: Body, part: Body) -> Body
     }
 }
 
+#[tactic(auto, unfolding(crate::specs::Parts::without_check))]
 fn check_without(whole: Body, part: Body) -> Verdict
     ensures { result ≡ without_check whole part }
 {
-    let v = first_refusal(body_check::check(whole), body_check::check(part));
-    let heavier = refusals::refuse_when(whole.mass_kg <= part.mass_kg, Refusal::NotHeavier);
-    first_refusal(v, heavier)
+    body_check::check(whole)?;
+    body_check::check(part)?;
+    refusals::refuse_when(whole.mass_kg <= part.mass_kg, Refusal::NotHeavier)
 }
 
 // Returns the whole with one of its parts taken off.
-pub fn without_part(whole: Body, part: Body) -> JoinedBody
+#[tactic(auto, unfolding(crate::specs::Parts::without_of))]
+pub fn without_part(whole: Body, part: Body) -> Result<Body, Refusal>
     ensures { IsJoined result (without_of whole part) }
 {
-    let verdict = check_without(whole, part);
-    match verdict {
-        Verdict::Accepted => joins::accepted(part_off(whole, part)),
-        Verdict::Refused(refusal) => joins::refused(refusal),
-    }
+    check_without(whole, part)?;
+    Ok(part_off(whole, part))
 }

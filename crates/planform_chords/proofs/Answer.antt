@@ -1,4 +1,5 @@
 -- The list and the count by how the call ends: a refusal of the planform, or its chords. Assumes nothing.
+use Rattle.std.specs.Prelude.{Ok}
 use mathlib.Core.Path.{◌≡◌, refl, sym, ap, ◌∙◌}
 use mathlib.Core.List.{List, [], ◌∷◌}
 use Prim.Native.Nat.{ℕ, ◌*◌, ◌/◌, ◌≤◌}
@@ -9,8 +10,7 @@ use lib.Ieee.{Float}
 use Rattle.sorting.specs.Sorted.{over, Written}
 use Rattle.sorting.proofs.Over.{written_take, written_nothing, written_put}
 use Rattle.refusals.proofs.Given.{is_answer}
-use Rattle.refusals.specs.declared.Verdict.{Verdict}
-use Rattle.refusals.specs.declared.Verdict.TheVariants.{Accepted}
+use Rattle.refusals.specs.Verdict.{Verdict}
 use Rattle.refusals.specs.Calls.{Does}
 use Rattle.planforms.specs.declared.Planform.{Planform}
 use Rattle.outlines.specs.Outlines.{planform_check}
@@ -57,12 +57,12 @@ module _ (planform : Planform) (points : List Float) (h : Float) (ends ends' : L
         ∙ ap (λ (v : Verdict). (chords_by v planform points h).leaves ends) (sym v),
   )
 
-  pub listed_so : planform_check planform points ≡ Accepted → (found : Chords) (count : ℕ)
+  pub listed_so : planform_check planform points ≡ Ok tt → (found : Chords) (count : ℕ)
       → paired (ends_of found points h) ≡ chords_at planform points h
-      → Listed (paired (ends_of found points h)) ends ends' count → r ≡ record { verdict = Accepted; count = count } → Answered
+      → Listed (paired (ends_of found points h)) ends ends' count → r ≡ record { verdict = (Ok tt); count = count } → Answered
   listed_so v found count all w f =
-      answered_so Accepted v (
-        f ∙ ap (λ (n : ℕ). record { verdict = Accepted; count = n }) (w.count ∙ ap length all),
+      answered_so (Ok tt) v (
+        f ∙ ap (λ (n : ℕ). record { verdict = (Ok tt); count = n }) (w.count ∙ ap length all),
         w.list
             ∙ ap (λ (l : List (Float × Float)). over (ends_in l) ends) all,
       )

@@ -1,8 +1,7 @@
 -- The chords of a planform at a height, listed for the outline view (document 02, Paper 1).
-use Rattle.std.specs.Prelude.{◌≡◌, List, [], ◌∷◌, ℕ, length, Float}
+use Rattle.std.specs.Prelude.{◌≡◌, List, [], ◌∷◌, ℕ, length, Float, Ok, Err}
 use Rattle.sorting.specs.Sorted.{over}
-use Rattle.refusals.specs.declared.Verdict.{Verdict}
-use Rattle.refusals.specs.declared.Verdict.TheVariants.{Accepted, Refused}
+use Rattle.refusals.specs.Verdict.{Verdict}
 use Rattle.refusals.specs.Given.{IsAnswer}
 use Rattle.refusals.specs.Calls.{CallOf, leaves_alone, by_verdict}
 use Rattle.planforms.specs.declared.Planform.{Planform}
@@ -26,10 +25,10 @@ abbrev pub chords_by : Verdict → Planform → List Float → Float → CallOf 
 chords_by verdict planform points h =
     by_verdict verdict
     (record {
-      answer = record { verdict = Accepted; count = length (chords_at planform points h) };
+      answer = record { verdict = (Ok tt); count = length (chords_at planform points h) };
       leaves = over (ends_in (chords_at planform points h));
     })
-    (λ refusal. leaves_alone (record { verdict = Refused refusal; count = 0 }))
+    (λ refusal. leaves_alone (record { verdict = Err refusal; count = 0 }))
 
 -- the call for the chords at a height; the planform's refusals are those of an area
 unfoldable pub chords_call : Planform → List Float → Float → CallOf ChordList

@@ -33,13 +33,13 @@ pub fn chords_at(planform: Planform, points: &[f64], h: f64, ends: &mut [f64]) -
 {
     let verdict = outlines::check_planform(planform, points);
     match verdict {
-        Verdict::Accepted => listed(write_chords(
+        Ok(()) => listed(write_chords(
             chords_found(planform, points, h),
             points,
             h,
             ends,
         )),
-        Verdict::Refused(refusal) => refused(refusal),
+        Err(refusal) => refused(refusal),
     }
 }
 
@@ -67,14 +67,14 @@ fn chords_found(planform: Planform, points: &[f64], h: f64) -> Chords
 fn listed(count: usize) -> ChordList
     ensures { result ≡ record { verdict = Verdict.Accepted; count = count } }
 {
-    let verdict = Verdict::Accepted;
+    let verdict = Ok(());
     ChordList { verdict, count }
 }
 
 fn refused(refusal: Refusal) -> ChordList
     ensures { result ≡ record { verdict = Verdict.Refused refusal; count = 0 } }
 {
-    let verdict = Verdict::Refused(refusal);
+    let verdict = Err(refusal);
     ChordList { verdict, count: 0 }
 }
 

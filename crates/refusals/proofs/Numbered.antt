@@ -1,4 +1,5 @@
 -- Reading a refusal back from its row gives the refusal, and a verdict from its number and values the verdict. Assumes nothing.
+use Rattle.std.specs.Prelude.{Ok, Err}
 use mathlib.Core.Path.{◌≡◌, refl, sym, ap, ◌∙◌}
 use mathlib.Core.List.{List, [], ◌∷◌}
 use Prim.Native.Nat.{ℕ}
@@ -9,8 +10,7 @@ use Rattle.refusals.specs.declared.Refusal.TheVariants.{Limit, Scratch, Count, L
 use Rattle.refusals.specs.declared.Refusal.TheVariants.{TabOffRoot, TabTooDeep, Density, NotConverged, Mass, Centre, Tensor, NoForm}
 use Rattle.refusals.specs.declared.Refusal.TheVariants.{NoFigure, WallOverRadius, ThicknessOverRoot, FilletRatio, Screen, NoCorners}
 use Rattle.refusals.specs.declared.Refusal.TheVariants.{NotWholeSteps, NotHeavier}
-use Rattle.refusals.specs.declared.Verdict.{Verdict}
-use Rattle.refusals.specs.declared.Verdict.TheVariants.{Accepted, Refused}
+use Rattle.refusals.specs.Verdict.{Verdict}
 use Rattle.refusals.specs.declared.TensorFault.TheVariants.{Entry, Massless, Negative, Triangle}
 use lib.ListN.{get_or}
 use Rattle.refusals.specs.Refusals.{number_of, values_of, in_two_places}
@@ -60,5 +60,5 @@ not_zero refusal e =
 
 pub verdict_back : (verdict : Verdict) → verdict_from (number_in verdict) (first_in verdict) (second_in verdict) ≡ verdict
 unfolding verdict_from
-verdict_back Accepted = refl
-verdict_back (Refused refusal) = rw (ne_eqb (number_of refusal) 0 (not_zero refusal), read_back refusal)
+verdict_back (Ok tt) = refl
+verdict_back (Err refusal) = rw (ne_eqb (number_of refusal) 0 (not_zero refusal), read_back refusal)

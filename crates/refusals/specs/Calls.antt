@@ -1,8 +1,7 @@
 -- What a call answers, and what it leaves in the numbers that are lent to it: one definition says both.
-use Rattle.std.specs.Prelude.{◌≡◌, List, Float}
+use Rattle.std.specs.Prelude.{◌≡◌, List, Float, Ok, Err}
 use Rattle.refusals.specs.declared.Refusal.{Refusal}
-use Rattle.refusals.specs.declared.Verdict.{Verdict}
-use Rattle.refusals.specs.declared.Verdict.TheVariants.{Accepted, Refused}
+use Rattle.refusals.specs.Verdict.{Verdict}
 
 pub record CallOf (A : Type 0) : Type 0 where
   pub answer : A
@@ -15,8 +14,8 @@ leaves_alone answer = record { answer = answer; leaves = λ lent. lent }
 
 -- an answer by a verdict: one where it accepts, another, made of the refusal, where it refuses
 abbrev pub by_verdict : {A : Type 0} → Verdict → A → (Refusal → A) → A
-by_verdict Accepted given withheld = given
-by_verdict (Refused refusal) given withheld = withheld refusal
+by_verdict (Ok tt) given withheld = given
+by_verdict (Err refusal) given withheld = withheld refusal
 
 -- a function makes the call: r is its result, and `exit` the lent list when it returns
 abbrev pub Does : {A : Type 0} → CallOf A → A → List Float → List Float → Type 0

@@ -1,21 +1,20 @@
 -- What a call promises of a verdict by the table's number and values. Document 01, last paragraph: "If an answer is an
 -- enum, a definition states this paper's number and values for each of the enum's cases. The promises use that
 -- definition."
-use Rattle.std.specs.Prelude.{◌≡◌, List, ℕ}
+use Rattle.std.specs.Prelude.{◌≡◌, List, ℕ, Ok, Err}
 use Rattle.refusals.specs.Refusals.{number_of, values_of}
-use Rattle.refusals.specs.declared.Verdict.{Verdict}
-use Rattle.refusals.specs.declared.Verdict.TheVariants.{Accepted, Refused}
+use Rattle.refusals.specs.Verdict.{Verdict}
 
 -- a verdict gives this number of the table, with these values
 abbrev pub Gives : Verdict → ℕ → List ℕ → Type 0
-Gives Accepted number values = ⊥
-Gives (Refused refusal) number values = (number_of refusal ≡ number) × (values_of refusal ≡ values)
+Gives (Ok tt) number values = ⊥
+Gives (Err refusal) number values = (number_of refusal ≡ number) × (values_of refusal ≡ values)
 
 -- a verdict gives what the definition's verdict has in the table: the row of its refusal, and no number where it
 -- accepts
 abbrev pub GivesRow : Verdict → Verdict → Type 0
-GivesRow verdict Accepted = verdict ≡ Accepted
-GivesRow verdict (Refused refusal) = Gives verdict (number_of refusal) (values_of refusal)
+GivesRow verdict (Ok tt) = verdict ≡ Ok tt
+GivesRow verdict (Err refusal) = Gives verdict (number_of refusal) (values_of refusal)
 
 -- A call's answer is the definition's, and gives its number and values. `verdict_of` says of each case of the answer
 -- which verdict it is.

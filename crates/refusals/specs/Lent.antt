@@ -1,6 +1,6 @@
 -- A verdict's values and counts, written over the start of a lent list.
 use Rattle.std.specs.Prelude.{Bool, ◌&&◌, List, [], ◌∷◌, ◌++◌, ℕ, leb, length, drop}
-use Rattle.refusals.specs.declared.Verdict.{Verdict}
+use Rattle.refusals.specs.Verdict.{Verdict}
 use Rattle.refusals.specs.Numbered.{first_in, second_in}
 
 -- a list with others written over its first elements

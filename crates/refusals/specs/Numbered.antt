@@ -1,15 +1,14 @@
 -- A refusal and a verdict by number and values, as C, Rust and lent memory hold them, and back. `read_back`
 -- (proofs/Numbered) says that every row of the table gives its own refusal, and `verdict_back` that the number and
 -- values of a verdict give that verdict.
-use Rattle.std.specs.Prelude.{cond, List, [], ◌∷◌, ℕ, eqb, get_or}
+use Rattle.std.specs.Prelude.{cond, List, [], ◌∷◌, ℕ, eqb, get_or, Ok, Err}
 use Rattle.refusals.specs.declared.Refusal.{Refusal}
 use Rattle.refusals.specs.declared.Refusal.TheVariants.{Limit, Scratch, Count, Length, Points, Ends, Touches}
 use Rattle.refusals.specs.declared.Refusal.TheVariants.{NoArea, Angle, TabOffRoot, TabTooDeep, Density}
 use Rattle.refusals.specs.declared.Refusal.TheVariants.{NotConverged, Mass, Centre, Tensor, NoForm, NoFigure}
 use Rattle.refusals.specs.declared.Refusal.TheVariants.{WallOverRadius, ThicknessOverRoot, FilletRatio, Screen}
 use Rattle.refusals.specs.declared.Refusal.TheVariants.{NoCorners, NotWholeSteps, NotHeavier}
-use Rattle.refusals.specs.declared.Verdict.{Verdict}
-use Rattle.refusals.specs.declared.Verdict.TheVariants.{Accepted, Refused}
+use Rattle.refusals.specs.Verdict.{Verdict}
 use Rattle.refusals.specs.Refusals.{number_of, values_of, in_two_places}
 use Rattle.refusals.specs.declared.TensorFault.{TensorFault}
 use Rattle.refusals.specs.declared.TensorFault.TheVariants.{Entry, Massless, Negative, Triangle}
@@ -47,13 +46,13 @@ refusal_from number first second =
 
 -- the number of a verdict, 0 where nothing is refused
 abbrev pub number_in : Verdict → ℕ
-number_in Accepted = 0
-number_in (Refused refusal) = number_of refusal
+number_in (Ok tt) = 0
+number_in (Err refusal) = number_of refusal
 
 -- the values of a verdict in two places, zeros where nothing is refused
 abbrev pub values_in : Verdict → List ℕ
-values_in Accepted = 0 ∷ 0 ∷ []
-values_in (Refused refusal) = in_two_places (values_of refusal)
+values_in (Ok tt) = 0 ∷ 0 ∷ []
+values_in (Err refusal) = in_two_places (values_of refusal)
 
 abbrev pub first_in : Verdict → ℕ
 first_in verdict = get_or (values_in verdict) 0 0
@@ -62,4 +61,4 @@ abbrev pub second_in : Verdict → ℕ
 second_in verdict = get_or (values_in verdict) 1 0
 
 unfoldable pub verdict_from : ℕ → ℕ → ℕ → Verdict
-verdict_from number first second = cond (eqb number 0) Accepted (Refused (refusal_from number first second))
+verdict_from number first second = cond (eqb number 0) (Ok tt) (Err (refusal_from number first second))

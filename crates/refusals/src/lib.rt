@@ -5,7 +5,7 @@
 #![tactic(auto)]
 
 ghost use Rattle.std.specs.Prelude.{◌≡◌, ◌≤◌, length};
-ghost use Rattle.refusals.specs.Order.{refuse_unless, refuse_when, is_refused, first_refusal};
+ghost use Rattle.refusals.specs.Order.{refuse_unless, refuse_when, first_refusal};
 ghost use Rattle.refusals.specs.Refusals.{number_of, case_of, values_of, in_two_places};
 ghost use Rattle.refusals.specs.Rows.{IsRow};
 ghost use Rattle.refusals.specs.Numbered.{fault_from, refusal_from, number_in, values_in, verdict_from};
@@ -53,21 +53,17 @@ pub enum Refusal {
     NotHeavier,
 }
 
-// The answer of a check: accepted, or a refusal.
-#[derive(Clone, Copy)]
-pub enum Verdict {
-    Accepted,
-    Refused(Refusal),
-}
+// The answer of a check: nothing, where it accepts, or a refusal.
+pub type Verdict = Result<(), Refusal>;
 
 // Accepts where a condition holds, and refuses otherwise.
 pub fn refuse_unless(condition: bool, refusal: Refusal) -> Verdict
     ensures { result ≡ refuse_unless condition refusal }
 {
     if condition {
-        return Verdict::Accepted;
+        return Ok(());
     }
-    Verdict::Refused(refusal)
+    Err(refusal)
 }
 
 // Refuses where a condition holds, and accepts otherwise.
@@ -81,20 +77,7 @@ pub fn refuse_when(condition: bool, refusal: Refusal) -> Verdict
 pub fn first_refusal(earlier: Verdict, later: Verdict) -> Verdict
     ensures { result ≡ first_refusal earlier later }
 {
-    match earlier {
-        Verdict::Accepted => later,
-        Verdict::Refused(refusal) => Verdict::Refused(refusal),
-    }
-}
-
-// Tells whether a check refuses. Checks in a row return at the first that does.
-pub fn is_refused(verdict: Verdict) -> bool
-    ensures { result ≡ is_refused verdict }
-{
-    match verdict {
-        Verdict::Accepted => false,
-        Verdict::Refused(_) => true,
-    }
+    earlier.and(later)
 }
 
 // Returns the case of a refusal 17, counted from 0; c, the case 2, does not occur any more.
@@ -214,8 +197,8 @@ pub fn verdict_number(verdict: Verdict) -> usize
     ensures { result ≡ number_in verdict }
 {
     match verdict {
-        Verdict::Accepted => 0,
-        Verdict::Refused(refusal) => number(refusal),
+        Ok(()) => 0,
+        Err(refusal) => number(refusal),
     }
 }
 
@@ -224,8 +207,8 @@ pub fn verdict_values(verdict: Verdict) -> [usize; 2]
     ensures { result ≡ values_in verdict }
 {
     match verdict {
-        Verdict::Accepted => [0, 0],
-        Verdict::Refused(refusal) => values(refusal),
+        Ok(()) => [0, 0],
+        Err(refusal) => values(refusal),
     }
 }
 
@@ -234,9 +217,9 @@ pub fn verdict_of(number: usize, first: usize, second: usize) -> Verdict
     ensures { result ≡ verdict_from number first second }
 {
     if number == 0 {
-        return Verdict::Accepted;
+        return Ok(());
     }
-    Verdict::Refused(refusal_of(number, first, second))
+    Err(refusal_of(number, first, second))
 }
 
 // Writes a verdict's values over the first two numbers.
@@ -277,7 +260,7 @@ pub fn verdict_in<T>(answer: &Result<T, Refusal>) -> Verdict
     ensures { result ≡ verdict_in answer.now }
 {
     match answer {
-        Ok(_) => Verdict::Accepted,
-        Err(refusal) => Verdict::Refused(*refusal),
+        Ok(_) => Ok(()),
+        Err(refusal) => Err(*refusal),
     }
 }

@@ -1,10 +1,10 @@
 -- The calls on what is given by numbers (docs/FORMS.md; include/delvouzh.h): an unknown number, or another count of
 -- numbers, is no form.
-use Rattle.std.specs.Prelude.{cond, List, [], ◌∷◌, ℕ, ◌+◌, ◌*◌, ◌/◌, eqb, length, Float}
+use Rattle.std.specs.Prelude.{cond, List, [], ◌∷◌, ℕ, ◌+◌, ◌*◌, ◌/◌, eqb, length, Float, Err, Result}
 use Rattle.floats.specs.Operations.{bits, at}
+use Rattle.refusals.specs.declared.Refusal.{Refusal}
 use Rattle.refusals.specs.declared.Refusal.TheVariants.{NoForm}
-use Rattle.refusals.specs.declared.Verdict.{Verdict}
-use Rattle.refusals.specs.declared.Verdict.TheVariants.{Refused}
+use Rattle.refusals.specs.Verdict.{Verdict}
 use Rattle.refusals.specs.Calls.{CallOf, leaves_alone}
 use Rattle.planforms.specs.declared.NumberedPlanform.{NumberedPlanform}
 use Rattle.planforms.specs.declared.NumberedPlanform.TheVariants.{Known as planform_known, Unknown as no_planform}
@@ -23,9 +23,7 @@ use Rattle.bodies.specs.declared.Body.{Body}
 use Rattle.bodies.specs.Vectors.{vector}
 use Rattle.bodies.specs.Tensors.{zero_tensor, tensor}
 use Rattle.bodies.specs.Layout.{tensor_numbers, body_numbers, body_of}
-use Rattle.joins.specs.declared.JoinedBody.{JoinedBody}
-use Rattle.joins.specs.Joins.{joined_of, refused_body}
-use Rattle.moments.specs.declared.Moments.{Moments}
+use Rattle.joins.specs.Joins.{joined_of}
 use Rattle.moments.specs.Moments.{principal_moments_of}
 use Rattle.body_check.specs.BodyCheck.{check_of}
 use Rattle.placements.specs.Copies.{copied_of, placed_at_of}
@@ -51,7 +49,7 @@ numbered_area no_planform points L scratch_length = leaves_alone (refused_area N
 
 unfoldable pub numbered_chords : NumberedPlanform → List Float → Float → CallOf ChordList
 numbered_chords (planform_known planform) points h = chords_call planform points h
-numbered_chords no_planform points h = leaves_alone (record { verdict = Refused NoForm; count = 0 })
+numbered_chords no_planform points h = leaves_alone (record { verdict = Err NoForm; count = 0 })
 
 -- ---- where a point lies beside a planform (document 02, Paper 11)
 
@@ -61,7 +59,7 @@ numbered_drill no_planform points x height = refused_point NoForm
 
 -- ---- a ring of tubes (document 02, Paper 3): of length, outer radius, wall, base angle, body radius, density
 
-abbrev pub ring_of_known : ℕ → NumberedDensity → List Float → JoinedBody
+abbrev pub ring_of_known : ℕ → NumberedDensity → List Float → Result Body Refusal
 ring_of_known count (density_known density) figures =
     tubes_of
     (record {
@@ -73,12 +71,12 @@ ring_of_known count (density_known density) figures =
       density = density;
     })
     (at figures 4)
-ring_of_known count no_density figures = refused_body NoForm
+ring_of_known count no_density figures = Err NoForm
 
-unfoldable pub ring_by : ℕ → ℕ → List Float → JoinedBody
+unfoldable pub ring_by : ℕ → ℕ → List Float → Result Body Refusal
 ring_by count density figures =
     cond (eqb (length figures) 6) (ring_of_known count (numbered_density density (at figures 5)) figures)
-    (refused_body NoForm)
+    (Err NoForm)
 
 -- ---- points joined
 
@@ -92,42 +90,39 @@ point_body_at figures k =
     }
 
 -- the points of a line joined: "none, or more, gives 3"
-unfoldable pub joined_points_of : List Float → JoinedBody
+unfoldable pub joined_points_of : List Float → Result Body Refusal
 joined_points_of figures = joined_of (point_body_at figures) (length figures / 4)
 
 -- ---- principal moments: of a tensor's numbers
 
-abbrev pub no_moments : Moments
-no_moments = record { verdict = Refused NoForm; moments_kg_m2 = bits 0 ∷ bits 0 ∷ bits 0 ∷ [] }
-
-unfoldable pub tensor_moments : List Float → Moments
+unfoldable pub tensor_moments : List Float → Result (List Float) Refusal
 tensor_moments numbers =
-    cond (eqb (length numbers) tensor_numbers) (principal_moments_of (tensor (at numbers))) no_moments
+    cond (eqb (length numbers) tensor_numbers) (principal_moments_of (tensor (at numbers))) (Err NoForm)
 
 -- ---- the body check: of a body's numbers
 
 unfoldable pub body_verdict : List Float → Verdict
-body_verdict numbers = cond (eqb (length numbers) body_numbers) (check_of (body_of (at numbers))) (Refused NoForm)
+body_verdict numbers = cond (eqb (length numbers) body_numbers) (check_of (body_of (at numbers))) (Err NoForm)
 
 -- ---- copies of a body, and a part moved or taken off (document 02, Paper 13): of bodies' numbers
 
 -- what f gives of the body that numbers make up: another count of numbers than a body's is no form
-abbrev pub of_body : List Float → (Body → JoinedBody) → JoinedBody
-of_body numbers f = cond (eqb (length numbers) body_numbers) (f (body_of (at numbers))) (refused_body NoForm)
+abbrev pub of_body : List Float → (Body → Result Body Refusal) → Result Body Refusal
+of_body numbers f = cond (eqb (length numbers) body_numbers) (f (body_of (at numbers))) (Err NoForm)
 
-unfoldable pub copied_by : List Float → List Float → JoinedBody
+unfoldable pub copied_by : List Float → List Float → Result Body Refusal
 copied_by body offsets = of_body body (λ b. copied_of b offsets)
 
-unfoldable pub placed_by : List Float → List Float → JoinedBody
+unfoldable pub placed_by : List Float → List Float → Result Body Refusal
 placed_by body places = of_body body (λ b. placed_at_of b places)
 
 -- a part moved by an offset of x, y and z
-unfoldable pub moved_by : List Float → List Float → List Float → JoinedBody
+unfoldable pub moved_by : List Float → List Float → List Float → Result Body Refusal
 moved_by whole part offset =
     of_body whole
     (λ w. of_body part
     (λ p. cond (eqb (length offset) 3) (moved_of w p (vector (at offset 0) (at offset 1) (at offset 2)))
-    (refused_body NoForm)))
+    (Err NoForm)))
 
-unfoldable pub without_by : List Float → List Float → JoinedBody
+unfoldable pub without_by : List Float → List Float → Result Body Refusal
 without_by whole part = of_body whole (λ w. of_body part (λ p. without_of w p))

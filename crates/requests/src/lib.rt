@@ -18,9 +18,7 @@ use bodies::{BODY_NUMBERS, Body, TENSOR_NUMBERS, Vector};
 use drill::Answer;
 use figures::{Area, Figures};
 use fins::NumberedSet;
-use joins::JoinedBody;
 use materials::NumberedDensity;
-use moments::Moments;
 use planform_chords::ChordList;
 use planforms::NumberedPlanform;
 use refusals::{Refusal, Verdict};
@@ -32,7 +30,7 @@ const POINTS_NUMBERS: usize = 32 * BODY_NUMBERS;
 fn no_figures() -> Figures
     ensures { result ≡ refused_figures Refusal.NoForm 0 }
 {
-    let verdict = Verdict::Refused(Refusal::NoForm);
+    let verdict = Err(Refusal::NoForm);
     let body = Body::ZERO;
     Figures {
         verdict,
@@ -56,7 +54,7 @@ pub fn set_figures(set: NumberedSet, points: &[f64], limit: usize, scratch: &mut
 fn no_area() -> Area
     ensures { result ≡ refused_area Refusal.NoForm 0 }
 {
-    let verdict = Verdict::Refused(Refusal::NoForm);
+    let verdict = Err(Refusal::NoForm);
     Area {
         verdict,
         area_m2: 0.0,
@@ -86,7 +84,7 @@ pub fn area_figures(
 fn no_chords() -> ChordList
     ensures { result ≡ record { verdict = Verdict.Refused Refusal.NoForm; count = 0 } }
 {
-    let verdict = Verdict::Refused(Refusal::NoForm);
+    let verdict = Err(Refusal::NoForm);
     ChordList { verdict, count: 0 }
 }
 
@@ -119,11 +117,11 @@ pub fn drilled(planform: NumberedPlanform, points: &[f64], x_m: f64, height_m: f
 
 // Returns a ring of tubes by six numbers: length, outer radius, wall, base angle, body radius and density. Any other
 // count, or an unknown density, is refused with 18.
-pub fn ring_figures(count: usize, density: usize, numbers: &[f64]) -> JoinedBody
+pub fn ring_figures(count: usize, density: usize, numbers: &[f64]) -> Result<Body, Refusal>
     ensures { result ≡ ring_by count density numbers.now }
 {
     if numbers.len() != 6 {
-        return joins::refused(Refusal::NoForm);
+        return Err(Refusal::NoForm);
     }
     let found = materials::numbered_density(density, numbers[5]);
     match found {
@@ -138,21 +136,16 @@ pub fn ring_figures(count: usize, density: usize, numbers: &[f64]) -> JoinedBody
             },
             numbers[4],
         ),
-        NumberedDensity::Unknown => joins::refused(Refusal::NoForm),
+        NumberedDensity::Unknown => Err(Refusal::NoForm),
     }
 }
 
 // Returns the principal moments of a tensor's numbers; any other count of them is refused with 18.
-pub fn tensor_moments(numbers: &[f64]) -> Moments
+pub fn tensor_moments(numbers: &[f64]) -> Result<[f64; 3], Refusal>
     ensures { result ≡ tensor_moments numbers.now }
 {
     if numbers.len() != TENSOR_NUMBERS {
-        let verdict = Verdict::Refused(Refusal::NoForm);
-        let moments_kg_m2 = [0.0, 0.0, 0.0];
-        return Moments {
-            verdict,
-            moments_kg_m2,
-        };
+        return Err(Refusal::NoForm);
     }
     moments::principal_moments(bodies::tensor_of(numbers))
 }
@@ -162,45 +155,45 @@ pub fn body_verdict(numbers: &[f64]) -> Verdict
     ensures { result ≡ body_verdict numbers.now }
 {
     if numbers.len() != BODY_NUMBERS {
-        return Verdict::Refused(Refusal::NoForm);
+        return Err(Refusal::NoForm);
     }
     body_check::check(bodies::body_of(numbers))
 }
 
 // Returns copies of a body joined, each moved by the x and y of an offset. Any other count of the body's numbers is
 // refused with 18.
-pub fn copied_by(body: &[f64], offsets: &[f64]) -> JoinedBody
+pub fn copied_by(body: &[f64], offsets: &[f64]) -> Result<Body, Refusal>
     ensures { result ≡ copied_by body.now offsets.now }
 {
     if body.len() != BODY_NUMBERS {
-        return joins::refused(Refusal::NoForm);
+        return Err(Refusal::NoForm);
     }
     placements::copied(bodies::body_of(body), offsets)
 }
 
 // Returns copies of a body joined, each at the x, y and roll of a place. Any other count of the body's numbers is
 // refused with 18.
-pub fn placed_by(body: &[f64], places: &[f64]) -> JoinedBody
+pub fn placed_by(body: &[f64], places: &[f64]) -> Result<Body, Refusal>
     ensures { result ≡ placed_by body.now places.now }
 {
     if body.len() != BODY_NUMBERS {
-        return joins::refused(Refusal::NoForm);
+        return Err(Refusal::NoForm);
     }
     placements::placed(bodies::body_of(body), places)
 }
 
 // Returns a body with a part moved by an offset of three numbers. Any other count of numbers is refused with 18.
-pub fn moved_by(whole: &[f64], part: &[f64], offset: &[f64]) -> JoinedBody
+pub fn moved_by(whole: &[f64], part: &[f64], offset: &[f64]) -> Result<Body, Refusal>
     ensures { result ≡ moved_by whole.now part.now offset.now }
 {
     if whole.len() != BODY_NUMBERS {
-        return joins::refused(Refusal::NoForm);
+        return Err(Refusal::NoForm);
     }
     if part.len() != BODY_NUMBERS {
-        return joins::refused(Refusal::NoForm);
+        return Err(Refusal::NoForm);
     }
     if offset.len() != 3 {
-        return joins::refused(Refusal::NoForm);
+        return Err(Refusal::NoForm);
     }
     let offset_m = Vector {
         x: offset[0],
@@ -211,14 +204,14 @@ pub fn moved_by(whole: &[f64], part: &[f64], offset: &[f64]) -> JoinedBody
 }
 
 // Returns a body with a part taken off. Any other count of numbers is refused with 18.
-pub fn without_by(whole: &[f64], part: &[f64]) -> JoinedBody
+pub fn without_by(whole: &[f64], part: &[f64]) -> Result<Body, Refusal>
     ensures { result ≡ without_by whole.now part.now }
 {
     if whole.len() != BODY_NUMBERS {
-        return joins::refused(Refusal::NoForm);
+        return Err(Refusal::NoForm);
     }
     if part.len() != BODY_NUMBERS {
-        return joins::refused(Refusal::NoForm);
+        return Err(Refusal::NoForm);
     }
     placements::without_part(bodies::body_of(whole), bodies::body_of(part))
 }
@@ -253,14 +246,12 @@ fn write_points(bodies: &mut [f64], values: &[f64], count: usize)
 }
 
 // Returns the points of a line joined; none, or more than 32, are refused with 3.
-pub fn join_points(values: &[f64]) -> JoinedBody
+pub fn join_points(values: &[f64]) -> Result<Body, Refusal>
     ensures { result ≡ joined_points_of values.now }
 {
     let count = values.len() / 4;
     if 32 < count {
-        let verdict = Verdict::Refused(Refusal::Count);
-        let body = Body::ZERO;
-        return JoinedBody { verdict, body };
+        return Err(Refusal::Count);
     }
     let mut bodies = [0.0; POINTS_NUMBERS];
     write_points(&mut bodies, values, count);

@@ -2,9 +2,8 @@
 -- (include/delvouzh.h; document 02, Papers 9 and 10). An unknown number of a set's part or of a density is refused with
 -- 18, before every other refusal, and changes nothing. Where a list has no room a call returns 18 and leaves every list
 -- as it was.
-use Rattle.std.specs.Prelude.{◌≡◌, Bool, cond, ◌&&◌, List, [], ◌∷◌, ℕ, leb, length, Float}
+use Rattle.std.specs.Prelude.{◌≡◌, Bool, cond, ◌&&◌, List, [], ◌∷◌, ℕ, leb, length, Float, Err}
 use Rattle.refusals.specs.declared.Refusal.TheVariants.{NoForm}
-use Rattle.refusals.specs.declared.Verdict.TheVariants.{Refused}
 use Rattle.refusals.specs.Refusals.{number_of}
 use Rattle.refusals.specs.Calls.{CallOf}
 use Rattle.refusals.specs.Numbered.{number_in}
@@ -80,7 +79,7 @@ module _ {Change : Type 0} (memory : MemoryKind Change) (before : Lists) where
 
   -- the effect of numbers that stand for nothing: they are refused as no form, and nothing changes
   abbrev pub no_form : Effect Change
-  no_form = record { reply = record { verdict = Refused NoForm; samples = 0 }; change = memory.unchanged before }
+  no_form = record { reply = record { verdict = Err NoForm; samples = 0 }; change = memory.unchanged before }
 
   -- the effect of what numbers ask: that of the set or the density which they stand for, and no form where they stand
   -- for none

@@ -55,7 +55,7 @@ fn engine_fits(numbers: usize, counts: usize) -> bool
 fn no_form() -> Reply
     ensures { result ≡ record { verdict = Verdict.Refused Refusal.NoForm; samples = 0 } }
 {
-    let verdict = Verdict::Refused(Refusal::NoForm);
+    let verdict = Err(Refusal::NoForm);
     Reply {
         verdict,
         samples: 0,

@@ -1,11 +1,10 @@
 -- A limit and a scratch that are accepted give the strips room. Assumes nothing.
-use Rattle.std.proofs.Common.{◌≡◌, ℕ, arith}
-use Rattle.refusals.specs.declared.Verdict.TheVariants.{Accepted}
+use Rattle.std.proofs.Common.{◌≡◌, ℕ, arith, Ok}
 use Rattle.refusals.proofs.Accepted.{both}
 use Rattle.limits.proofs.Accepted.{limit_within, scratch_enough}
 use Rattle.strips.specs.Strips.{Room, run_check}
 
-pub run_within : (L n : ℕ) → run_check L n ≡ Accepted → Room L n
+pub run_within : (L n : ℕ) → run_check L n ≡ Ok tt → Room L n
 run_within L n h =
     let checks = both _ _ h in
     let limit = limit_within L checks.0 in

@@ -1,13 +1,12 @@
 -- Checks: the table of refusals, each limit from both sides, document 01's examples of a refusal, and the two orders.
-use Rattle.std.specs.Prelude.{Bool, true, false, not, ◌&&◌, cond, List, [], ◌∷◌, map, ℕ, suc, T, leb}
+use Rattle.std.specs.Prelude.{Bool, true, false, not, ◌&&◌, cond, List, [], ◌∷◌, map, ℕ, suc, T, leb, Ok, Err}
 use Rattle.std.specs.Float.{binary64}
 use Rattle.std.specs.Float.Ieee.{add, sub, mul, div, neg, of_bits, to_bits, of_int, lt, le, eq, ne}
 use Rattle.floats.specs.Operations.{bits, every}
 use Rattle.floats.specs.Floats.{abs_of}
 use Rattle.refusals.specs.declared.Refusal.TheVariants as refusal
 use Rattle.refusals.specs.declared.TensorFault.TheVariants as fault
-use Rattle.refusals.specs.declared.Verdict.{Verdict}
-use Rattle.refusals.specs.declared.Verdict.TheVariants.{Accepted, Refused}
+use Rattle.refusals.specs.Verdict.{Verdict}
 use Rattle.refusals.specs.Order.{refuse_unless, refuse_when, is_refused, first_refusal, first_from}
 use Rattle.planforms.specs.declared.Planform.{Planform}
 use Rattle.planforms.specs.declared.Planform.TheVariants.{Trapezoid, Ellipse, Outline}
@@ -35,7 +34,7 @@ use Rattle.bodies.specs.declared.Tensor.{Tensor}
 use Rattle.bodies.specs.Vectors.{vector}
 use Rattle.bodies.specs.Tensors.{diagonal}
 use Rattle.moments.specs.Moments.{rotation_of, rotate, sweep, sweeps, insert_moment, insert_all, entries_fit, eigenvalues_of}
-use Rattle.moments.specs.Moments.{principal_moments_of}
+use Rattle.moments.specs.Moments.{moments_told, principal_moments_of}
 use Rattle.root.specs.Root.{near_root, root_of}
 use Rattle.body_check.specs.BodyCheck.{largest_magnitude, check_tensor, check_of}
 use Rattle.test_definitions.specs.Rows.{is, are, accepted, refused}
@@ -82,44 +81,44 @@ minus b = to_bits binary64 (neg (bits b))
 
 abbrev pub first_of_two : Bool
 first_of_two =
-    refused 6 [] (first_refusal (Refused refusal.Ends) (Refused refusal.NoArea))
-    && refused 8 [] (first_refusal Accepted (Refused refusal.NoArea))
+    refused 6 [] (first_refusal (Err refusal.Ends) (Err refusal.NoArea))
+    && refused 8 [] (first_refusal (Ok tt) (Err refusal.NoArea))
     && accepted (refuse_unless true refusal.Ends)
     && accepted (refuse_when false refusal.Ends)
-    && is_refused (Refused refusal.Ends)
-    && not (is_refused Accepted)
+    && is_refused (Err refusal.Ends)
+    && not (is_refused (Ok tt))
 
 -- document 01's table, the column "No.", with the values that go with a number, and document 02's numbers
 abbrev pub refusal_table : Bool
 refusal_table =
-    refused 1 [] (Refused refusal.Limit)
-    && refused 2 [] (Refused refusal.Scratch)
-    && refused 3 [] (Refused refusal.Count)
-    && refused 4 (2 ∷ []) (Refused (refusal.Length 2))
-    && refused 5 [] (Refused refusal.Points)
-    && refused 6 [] (Refused refusal.Ends)
-    && refused 7 (0 ∷ 2 ∷ []) (Refused (refusal.Touches 0 2))
-    && refused 8 [] (Refused refusal.NoArea)
-    && refused 9 (12 ∷ []) (Refused (refusal.Angle 12))
-    && refused 10 [] (Refused refusal.TabOffRoot)
-    && refused 11 [] (Refused refusal.TabTooDeep)
-    && refused 12 [] (Refused refusal.Density)
-    && refused 13 (6 ∷ []) (Refused (refusal.NotConverged 6))
-    && refused 15 [] (Refused refusal.Mass)
-    && refused 16 [] (Refused refusal.Centre)
-    && refused 17 (0 ∷ []) (Refused (refusal.Tensor fault.Entry))
-    && refused 17 (1 ∷ []) (Refused (refusal.Tensor fault.Massless))
-    && refused 17 (3 ∷ []) (Refused (refusal.Tensor fault.Negative))
-    && refused 17 (4 ∷ []) (Refused (refusal.Tensor fault.Triangle))
-    && refused 18 [] (Refused refusal.NoForm)
-    && refused 19 [] (Refused refusal.NoFigure)
-    && refused 20 [] (Refused refusal.WallOverRadius)
-    && refused 21 [] (Refused refusal.ThicknessOverRoot)
-    && refused 22 [] (Refused refusal.FilletRatio)
-    && refused 23 [] (Refused refusal.Screen)
-    && refused 24 [] (Refused refusal.NoCorners)
-    && refused 25 [] (Refused refusal.NotWholeSteps)
-    && refused 26 [] (Refused refusal.NotHeavier)
+    refused 1 [] (Err refusal.Limit)
+    && refused 2 [] (Err refusal.Scratch)
+    && refused 3 [] (Err refusal.Count)
+    && refused 4 (2 ∷ []) (Err (refusal.Length 2))
+    && refused 5 [] (Err refusal.Points)
+    && refused 6 [] (Err refusal.Ends)
+    && refused 7 (0 ∷ 2 ∷ []) (Err (refusal.Touches 0 2))
+    && refused 8 [] (Err refusal.NoArea)
+    && refused 9 (12 ∷ []) (Err (refusal.Angle 12))
+    && refused 10 [] (Err refusal.TabOffRoot)
+    && refused 11 [] (Err refusal.TabTooDeep)
+    && refused 12 [] (Err refusal.Density)
+    && refused 13 (6 ∷ []) (Err (refusal.NotConverged 6))
+    && refused 15 [] (Err refusal.Mass)
+    && refused 16 [] (Err refusal.Centre)
+    && refused 17 (0 ∷ []) (Err (refusal.Tensor fault.Entry))
+    && refused 17 (1 ∷ []) (Err (refusal.Tensor fault.Massless))
+    && refused 17 (3 ∷ []) (Err (refusal.Tensor fault.Negative))
+    && refused 17 (4 ∷ []) (Err (refusal.Tensor fault.Triangle))
+    && refused 18 [] (Err refusal.NoForm)
+    && refused 19 [] (Err refusal.NoFigure)
+    && refused 20 [] (Err refusal.WallOverRadius)
+    && refused 21 [] (Err refusal.ThicknessOverRoot)
+    && refused 22 [] (Err refusal.FilletRatio)
+    && refused 23 [] (Err refusal.Screen)
+    && refused 24 [] (Err refusal.NoCorners)
+    && refused 25 [] (Err refusal.NotWholeSteps)
+    && refused 26 [] (Err refusal.NotHeavier)
 
 -- ---- limits, one step inside and outside
 
@@ -209,7 +208,7 @@ abbrev pub entries_refused : Bool
 entries_refused =
     entries_fit (last_entry 0x5f30_0000_0000_0000)
     && not (entries_fit (last_entry 0x5f30_0000_0000_0001))
-    && are (principal_moments_of (last_entry infinity)).moments_kg_m2 (0 ∷ 0 ∷ 0 ∷ [])
+    && are (moments_told (principal_moments_of (last_entry infinity))) (0 ∷ 0 ∷ 0 ∷ [])
 
 -- of the two roots for the tangent the smaller one is taken, where τ is −1/2
 abbrev pub smaller_root : Bool
@@ -372,5 +371,5 @@ pub checks_hold :
     && area_order
     && body_order
     && empty_body_passes)
-unfolding of_bits to_bits of_int add sub mul div neg lt le eq ne abs_of is_refused first_refusal first_from every length_within length_check angle_check scratch_check density_check is_in_box segments_touch sum_of_terms outline_check largest_height root_chord_of planform_check tab_check depth_check set_check area_check is_none is_sound ratio_check angle_of span_less_sine_of sector_of fillet_section_of sin_cos_of root_of near_root rotation_of rotate sweep sweeps insert_moment insert_all eigenvalues_of largest_magnitude check_tensor
+unfolding of_bits to_bits of_int add sub mul div neg lt le eq ne abs_of first_from every length_within length_check angle_check scratch_check density_check is_in_box segments_touch sum_of_terms outline_check largest_height root_chord_of planform_check tab_check depth_check set_check area_check is_none is_sound ratio_check angle_of span_less_sine_of sector_of fillet_section_of sin_cos_of root_of near_root rotation_of rotate sweep sweeps insert_moment insert_all eigenvalues_of largest_magnitude check_tensor
 checks_hold = tt

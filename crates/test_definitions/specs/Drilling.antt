@@ -172,5 +172,5 @@ pub drilling_holds :
     && exact_sum
     && drill_order
     && outline_first)
-unfolding of_bits add sub mul div lt le eq ne abs_of is_refused first_refusal first_from every length_within length_check is_in_box segments_touch sum_of_terms outline_check planform_check is_whole steps_of lies_on is_cut_rising is_cut squared_distance is_nearer offset_of is_on cuts some count is_on_edge is_inside nearer_of nearest_to nearest_corner are_whole place_of drill_check drill_of
+unfolding of_bits add sub mul div lt le eq ne abs_of first_from every length_within length_check is_in_box segments_touch sum_of_terms outline_check planform_check is_whole steps_of lies_on is_cut_rising is_cut squared_distance is_nearer offset_of is_on cuts some count is_on_edge is_inside nearer_of nearest_to nearest_corner are_whole place_of drill_check drill_of
 drilling_holds = tt

@@ -101,5 +101,5 @@ whole_before_part =
 
 pub placing_holds :
     T (turned_before_moved && here_is_the_body && places_counted && places_in_order && heavier && whole_before_part)
-unfolding of_bits to_bits of_int round add sub mul div neg lt le eq ne is_nan abs_of root_of near_root m_of sin_cos_of is_refused first_refusal first_from every length_within length_check angle_check turn_tensor inertia_about_of rotated_of in_order sums_of inertia_of join_of rotation_of rotate sweep sweeps insert_moment insert_all eigenvalues_of largest_magnitude check_tensor places_check turned_copy copy_at placed_of copies_check moved_check without_check
+unfolding of_bits to_bits of_int round add sub mul div neg lt le eq ne is_nan abs_of root_of near_root m_of sin_cos_of first_from every length_within length_check angle_check turn_tensor inertia_about_of rotated_of in_order sums_of inertia_of join_of rotation_of rotate sweep sweeps insert_moment insert_all eigenvalues_of largest_magnitude check_tensor places_check turned_copy copy_at placed_of copies_check moved_check without_check
 placing_holds = tt

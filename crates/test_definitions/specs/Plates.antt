@@ -103,5 +103,5 @@ pub plates_hold :
     T
     (zero_refused && centroid_scaled_first && tab_inward && density_behind_the_sum && cant_of_zero
     && no_fillets_joined)
-unfolding of_bits to_bits of_int round add sub mul div neg lt le eq ne inertia_about_of of_origin_tensor in_order sums_of inertia_of join_of tab_integrals_of plate_body with_fillets canted_of first_refusal concluded_area
+unfolding of_bits to_bits of_int round add sub mul div neg lt le eq ne inertia_about_of of_origin_tensor in_order sums_of inertia_of join_of tab_integrals_of plate_body with_fillets canted_of concluded_area
 plates_hold = tt

@@ -1,11 +1,10 @@
 -- What the rows are written with. A row says what a definition gives where a wrong one, named beside it, gives
 -- something else; by the contracts, which are equations with the definitions, the code gives it too.
-use Rattle.std.specs.Prelude.{Bool, true, false, ◌&&◌, List, [], ◌∷◌, ℕ, eqb, Float}
+use Rattle.std.specs.Prelude.{Bool, true, false, ◌&&◌, List, [], ◌∷◌, ℕ, eqb, Float, Ok, Err}
 use Rattle.std.specs.Float.{binary64}
 use Rattle.std.specs.Float.Ieee.{to_bits}
 use Rattle.refusals.specs.Refusals.{number_of, values_of}
-use Rattle.refusals.specs.declared.Verdict.{Verdict}
-use Rattle.refusals.specs.declared.Verdict.TheVariants.{Accepted, Refused}
+use Rattle.refusals.specs.Verdict.{Verdict}
 
 -- an f64 by its bits: a zero with its sign; a NaN is 7ff8000000000000
 abbrev pub is : Float → ℕ → Bool
@@ -24,10 +23,10 @@ same (m ∷ ms) [] = false
 same (m ∷ ms) (n ∷ ns) = eqb m n && same ms ns
 
 abbrev pub accepted : Verdict → Bool
-accepted Accepted = true
-accepted (Refused refusal) = false
+accepted (Ok tt) = true
+accepted (Err refusal) = false
 
 -- refused by a number of the table, with its values
 abbrev pub refused : ℕ → List ℕ → Verdict → Bool
-refused n values Accepted = false
-refused n values (Refused refusal) = eqb (number_of refusal) n && same (values_of refusal) values
+refused n values (Ok tt) = false
+refused n values (Err refusal) = eqb (number_of refusal) n && same (values_of refusal) values

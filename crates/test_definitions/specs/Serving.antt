@@ -1,11 +1,10 @@
 -- Eight screens and their turns (document 02, Paper 10): rows against likely wrong orders, and against calls that touch
 -- too much.
-use Rattle.std.specs.Prelude.{Bool, true, false, not, ◌&&◌, List, [], ◌∷◌, ℕ, zero, suc, T, eqb, length, replicate, get_or, Float}
+use Rattle.std.specs.Prelude.{Bool, true, false, not, ◌&&◌, List, [], ◌∷◌, ℕ, zero, suc, T, eqb, length, replicate, get_or, Float, Ok}
 use Rattle.std.specs.Float.{nan}
 use Rattle.std.specs.Float.Ieee.{of_bits, to_bits, of_int, add, sub, mul, div, neg, lt, le, eq, ne}
 use Rattle.floats.specs.Operations.{bits, every}
 use Rattle.floats.specs.Floats.{abs_of}
-use Rattle.refusals.specs.declared.Verdict.TheVariants.{Accepted}
 use Rattle.refusals.specs.Order.{is_refused, first_refusal, first_from}
 use Rattle.limits.specs.Limits.{scratch_check, length_within, length_check, angle_check}
 use Rattle.fillets.specs.Fillets.{is_none, is_sound, ratio_check}
@@ -51,7 +50,7 @@ over =
       next = 0;
       totals = record { value = []; intervals = 0; samples = 7 };
       ended = true;
-      outcome = bare_figures Accepted 7;
+      outcome = bare_figures (Ok tt) 7;
     }
 
 -- which of eight screens hold a job: 1 for each that does
@@ -197,9 +196,9 @@ pub serving_holds :
     T
     (from_the_next && from_screen_one && eight_turns && short_turn && turns_told && ended_frees && busy_first
     && refused_stays_free && own_density)
-unfolding of_bits to_bits of_int add sub mul div neg lt le eq ne abs_of is_refused first_refusal first_from every length_within length_check angle_check scratch_check density_check tab_check depth_check is_none is_sound ratio_check root_chord_of planform_check own_check stepped_on step_of change_of making_check made_of place_of holds_job is_free first_held next_screen pick_of with_held served_of submitted_of changed_of turn_of submit_of change_at served_over in_turn
+unfolding of_bits to_bits of_int add sub mul div neg lt le eq ne abs_of first_from every length_within length_check angle_check scratch_check density_check tab_check depth_check is_none is_sound ratio_check root_chord_of planform_check own_check stepped_on step_of change_of making_check made_of place_of holds_job is_free first_held next_screen pick_of with_held served_of submitted_of changed_of turn_of submit_of change_at served_over in_turn
 serving_holds = tt
 
 pub progress_holds : T own_progress
-unfolding of_bits to_bits of_int add sub mul div neg lt le eq ne abs_of is_refused first_refusal first_from every length_within length_check angle_check scratch_check density_check tab_check depth_check is_none is_sound ratio_check root_chord_of planform_check own_check making_check made_of place_of holds_job is_free with_held submitted_of submit_of below_all insert sorted span_of every_y once break_heights count_below progress_of told_of progress_at
+unfolding of_bits to_bits of_int add sub mul div neg lt le eq ne abs_of first_from every length_within length_check angle_check scratch_check density_check tab_check depth_check is_none is_sound ratio_check root_chord_of planform_check own_check making_check made_of place_of holds_job is_free with_held submitted_of submit_of below_all insert sorted span_of every_y once break_heights count_below progress_of told_of progress_at
 progress_holds = tt

@@ -179,5 +179,5 @@ pub shapes_hold :
     T
     (sorted_lists && outline_lengths && break_heights_lem && heights_above && outline_crossings_lem && chords_listed
     && touching_segments && section_moments_lem && area_values_lem && plate_values_lem)
-unfolding of_bits to_bits of_int round add sub mul div neg lt le eq ne abs_of below_all insert sorted largest_height root_chord_of span_of heights every_y once break_heights place_above one_strip crossed crossings outline_crossings ends_at paired is_in_box segments_touch airfoil_constants chord_moments length_within length_check first_refusal first_from planform_check ends_in chords_call scale_of sums_from sample_of area_three plate_of
+unfolding of_bits to_bits of_int round add sub mul div neg lt le eq ne abs_of below_all insert sorted largest_height root_chord_of span_of heights every_y once break_heights place_above one_strip crossed crossings outline_crossings ends_at paired is_in_box segments_touch airfoil_constants chord_moments length_within length_check first_from planform_check ends_in chords_call scale_of sums_from sample_of area_three plate_of
 shapes_hold = tt

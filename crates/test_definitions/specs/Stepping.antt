@@ -1,10 +1,9 @@
 -- A job's calls (document 02, Paper 9): a fin of two strips, between heights 0, 1 and 2, with one piece each.
-use Rattle.std.specs.Prelude.{Bool, true, false, not, ◌&&◌, List, [], ◌∷◌, map, ℕ, T, eqb, length, take, drop, replicate, Float}
+use Rattle.std.specs.Prelude.{Bool, true, false, not, ◌&&◌, List, [], ◌∷◌, map, ℕ, T, eqb, length, take, drop, replicate, Float, Ok, Err}
 use Rattle.std.specs.Float.Ieee.{add, sub, mul, div, of_bits, to_bits, of_int, round, lt, le, eq, ne}
 use Rattle.floats.specs.Operations.{bits, at, every}
 use Rattle.floats.specs.Floats.{abs_of}
 use Rattle.refusals.specs.declared.Refusal.TheVariants as refusal
-use Rattle.refusals.specs.declared.Verdict.TheVariants as verdict
 use Rattle.refusals.specs.Order.{is_refused, first_refusal}
 use Rattle.limits.specs.Limits.{scratch_check}
 use Rattle.materials.specs.declared.Density.{Density}
@@ -89,7 +88,7 @@ limited L strips next samples value =
       next = next;
       totals = record { value = value; intervals = strips; samples = samples };
       ended = false;
-      outcome = bare_figures verdict.Accepted 0;
+      outcome = bare_figures (Ok tt) 0;
     }
 
 abbrev worked : ℕ → ℕ → ℕ → List Float → Job
@@ -105,7 +104,7 @@ over =
       next = 3;
       totals = record { value = zeros; intervals = 1; samples = 135 };
       ended = true;
-      outcome = bare_figures (verdict.Refused (refusal.NotConverged 6)) 135;
+      outcome = bare_figures (Err (refusal.NotConverged 6)) 135;
     }
 
 abbrev is_short : Progress → Bool
@@ -240,7 +239,7 @@ last_strip_written scratch =
     && are (take 2 (drop 16 scratch)) (one ∷ one ∷ [])
 
 pub calls_hold : T (short_step && repeats && no_limit && density_taken_lem && density_left && job_ends && asked_again)
-unfolding of_bits to_bits of_int round add sub mul div lt le eq ne abs_of every below_all insert sorted is_refused first_refusal scratch_check density_check chord_moments largest_height root_chord_of span_of heights every_y place_above crossed crossings outline_crossings ends_at paired scale_of sums_from sample_of plate_of nodes kronrod_weights gauss_weights heights_to weighted_to piece_of total_of error_of absolute relative converged score_of last_highest worst_place component_of repeat halving with_strip onward_of outcome_of concluded_set after_strip stepped_on step_of change_of
+unfolding of_bits to_bits of_int round add sub mul div lt le eq ne abs_of every below_all insert sorted scratch_check density_check chord_moments largest_height root_chord_of span_of heights every_y place_above crossed crossings outline_crossings ends_at paired scale_of sums_from sample_of plate_of nodes kronrod_weights gauss_weights heights_to weighted_to piece_of total_of error_of absolute relative converged score_of last_highest worst_place component_of repeat halving with_strip onward_of outcome_of concluded_set after_strip stepped_on step_of change_of
 calls_hold = tt
 
 -- against telling the next strip's place for the strips worked, counting equal heights twice among all, and leaving out
@@ -263,16 +262,16 @@ progress_holds = tt
 -- once
 
 pub first_step_holds : T (let s = (step_of (worked 0 0 0 zeros) 128).answer in one_strip_a_step s)
-unfolding of_bits to_bits of_int round add sub mul div lt le eq ne abs_of every below_all insert sorted is_refused first_refusal scratch_check density_check chord_moments largest_height root_chord_of span_of heights every_y place_above crossed crossings outline_crossings ends_at paired scale_of sums_from sample_of plate_of nodes kronrod_weights gauss_weights heights_to weighted_to piece_of total_of error_of absolute relative converged score_of last_highest worst_place component_of repeat halving with_strip onward_of outcome_of concluded_set after_strip stepped_on step_of change_of
+unfolding of_bits to_bits of_int round add sub mul div lt le eq ne abs_of every below_all insert sorted scratch_check density_check chord_moments largest_height root_chord_of span_of heights every_y place_above crossed crossings outline_crossings ends_at paired scale_of sums_from sample_of plate_of nodes kronrod_weights gauss_weights heights_to weighted_to piece_of total_of error_of absolute relative converged score_of last_highest worst_place component_of repeat halving with_strip onward_of outcome_of concluded_set after_strip stepped_on step_of change_of
 first_step_holds = tt
 
 pub last_step_holds :
     T (let s = (step_of (worked 1 3 15 (map bits (one ∷ 0 ∷ 0 ∷ 0 ∷ 0 ∷ 0 ∷ 0 ∷ []))) 128).answer in sums_go_on s)
-unfolding of_bits to_bits of_int round add sub mul div lt le eq ne abs_of every below_all insert sorted is_refused first_refusal scratch_check density_check chord_moments largest_height root_chord_of span_of heights every_y place_above crossed crossings outline_crossings ends_at paired scale_of sums_from sample_of plate_of nodes kronrod_weights gauss_weights heights_to weighted_to piece_of total_of error_of absolute relative converged score_of last_highest worst_place component_of repeat halving with_strip onward_of outcome_of concluded_set after_strip stepped_on step_of change_of
+unfolding of_bits to_bits of_int round add sub mul div lt le eq ne abs_of every below_all insert sorted scratch_check density_check chord_moments largest_height root_chord_of span_of heights every_y place_above crossed crossings outline_crossings ends_at paired scale_of sums_from sample_of plate_of nodes kronrod_weights gauss_weights heights_to weighted_to piece_of total_of error_of absolute relative converged score_of last_highest worst_place component_of repeat halving with_strip onward_of outcome_of concluded_set after_strip stepped_on step_of change_of
 last_step_holds = tt
 
 pub last_scratch_holds :
     T (let scratch = (step_of (worked 1 3 15 zeros) 128).leaves (replicate 128 (bits one)) in last_strip_written
     scratch)
-unfolding of_bits to_bits of_int round add sub mul div lt le eq ne abs_of every below_all insert sorted is_refused first_refusal scratch_check density_check chord_moments largest_height root_chord_of span_of heights every_y place_above crossed crossings outline_crossings ends_at paired scale_of sums_from sample_of plate_of nodes kronrod_weights gauss_weights heights_to weighted_to piece_of total_of error_of absolute relative converged score_of last_highest worst_place component_of repeat halving with_strip onward_of outcome_of concluded_set after_strip stepped_on step_of change_of
+unfolding of_bits to_bits of_int round add sub mul div lt le eq ne abs_of every below_all insert sorted scratch_check density_check chord_moments largest_height root_chord_of span_of heights every_y place_above crossed crossings outline_crossings ends_at paired scale_of sums_from sample_of plate_of nodes kronrod_weights gauss_weights heights_to weighted_to piece_of total_of error_of absolute relative converged score_of last_highest worst_place component_of repeat halving with_strip onward_of outcome_of concluded_set after_strip stepped_on step_of change_of
 last_scratch_holds = tt

@@ -58,7 +58,7 @@ fn step_row(progress: Progress, job: Job) -> Row {
     match progress {
         Progress::Short => {
             let figures = figures::bare_figures(
-                Verdict::Refused(Refusal::Scratch),
+                Err(Refusal::Scratch),
                 job.totals.samples,
             );
             jobs::figures_row(figures)

@@ -23,7 +23,7 @@ const CALLS: u64 = 80;
 
 fn is_taken(reply: Reply) -> bool {
     let verdict = reply.verdict;
-    !refusals::is_refused(verdict)
+    verdict.is_ok()
 }
 
 // Makes one call by the row's number: a change of density, one that is refused, a step lent too little, or a step.

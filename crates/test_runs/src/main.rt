@@ -23,12 +23,12 @@ struct Reason {
 
 fn reason_of(verdict: Verdict) -> Reason {
     match verdict {
-        Verdict::Accepted => Reason {
+        Ok(()) => Reason {
             number: 0,
             first: 0,
             second: 0,
         },
-        Verdict::Refused(refusal) => {
+        Err(refusal) => {
             let values = refusals::values(refusal);
             Reason {
                 number: refusals::number(refusal) as u64,

@@ -106,8 +106,8 @@ pub fn wood(seed: u64) -> f64 {
 // Returns a refusal's number, or 0, and the two values that go with it.
 pub fn reason(verdict: Verdict) -> [usize; 3] {
     match verdict {
-        Verdict::Accepted => [0, 0, 0],
-        Verdict::Refused(refusal) => {
+        Ok(()) => [0, 0, 0],
+        Err(refusal) => {
             let values = refusals::values(refusal);
             [refusals::number(refusal), values[0], values[1]]
         }

@@ -11,12 +11,11 @@ ghost use Rattle.std.specs.Prelude.{◌≡◌, ◌≤◌};
 ghost use Rattle.refusals.specs.Given.{IsVerdict};
 ghost use Rattle.joins.specs.Joins.{IsJoined};
 ghost use Rattle.tubes.specs.Tubes.{hollow_cylinder, tube_at, wall_check, mount_check, tube_check, tubes_of};
-ghost use Rattle.tubes.specs.Closing.{closing_value, closed_at, refused_radius, IsClosing, closing_of};
+ghost use Rattle.tubes.specs.Closing.{closing_value, IsClosing, closing_of};
 
 use bodies::{Body, Tensor, Vector};
-use joins::JoinedBody;
 use materials::Density;
-use refusals::{Refusal, Verdict, first_refusal};
+use refusals::{Refusal, Verdict};
 
 const PI: f64 = 3.141592653589793;
 
@@ -28,13 +27,6 @@ pub struct TubeFinSet {
     pub thickness_m: f64,
     pub base_angle_rad: f64,
     pub density: Density,
-}
-
-// The outer radius of tubes that close the ring around a body, or zero with a refusal.
-#[derive(Clone, Copy)]
-pub struct ClosingRadius {
-    pub verdict: Verdict,
-    pub radius_m: f64,
 }
 
 // Returns a tube on the axis with its forward end at the origin. A wall as thick as the outer radius makes it solid, a
@@ -85,47 +77,38 @@ fn check_wall(thickness_m: f64) -> Verdict
 }
 
 // Checks what the tubes stand on: count, body radius, base angle, density.
+#[tactic(auto, unfolding(crate::specs::Tubes::mount_check))]
 fn check_mount(set: TubeFinSet, body_radius_m: f64) -> Verdict
     ensures { result ≡ mount_check set body_radius_m }
 {
     let density = set.density;
-    let v = limits::check_count(set.count);
-    let v = first_refusal(v, limits::check_length(limits::BODY_RADIUS, body_radius_m));
-    let v = first_refusal(
-        v,
-        limits::check_angle(limits::BASE_ANGLE, set.base_angle_rad),
-    );
-    first_refusal(v, materials::check_density(density))
+    limits::check_count(set.count)?;
+    limits::check_length(limits::BODY_RADIUS, body_radius_m)?;
+    limits::check_angle(limits::BASE_ANGLE, set.base_angle_rad)?;
+    materials::check_density(density)
 }
 
 // Checks a ring of tubes and returns its first refusal, in the order of document 02, Paper 3.
+#[tactic(auto, using(refusals::proofs::Given::is_answer, crate::proofs::Groups::tube_check_by_group))]
 fn check_tubes(set: TubeFinSet, body_radius_m: f64) -> Verdict
     ensures { IsVerdict result (tube_check set body_radius_m) }
 {
-    let v = check_mount(set, body_radius_m);
-    let v = first_refusal(v, limits::check_length(limits::TUBE_LENGTH, set.length_m));
-    let v = first_refusal(
-        v,
-        limits::check_length(limits::OUTER_RADIUS, set.outer_radius_m),
-    );
-    let v = first_refusal(v, check_wall(set.thickness_m));
+    check_mount(set, body_radius_m)?;
+    limits::check_length(limits::TUBE_LENGTH, set.length_m)?;
+    limits::check_length(limits::OUTER_RADIUS, set.outer_radius_m)?;
+    check_wall(set.thickness_m)?;
     let over = set.outer_radius_m < set.thickness_m;
-    first_refusal(v, refusals::refuse_when(over, Refusal::WallOverRadius))
+    refusals::refuse_when(over, Refusal::WallOverRadius)
 }
 
 // Returns the ring's mass, centre and tensor, on a body of the given radius. The frame's origin is on the axis at the
 // tubes' forward end.
-pub fn mass_properties(set: TubeFinSet, body_radius_m: f64) -> JoinedBody
+pub fn mass_properties(set: TubeFinSet, body_radius_m: f64) -> Result<Body, Refusal>
     ensures { IsJoined result (tubes_of set body_radius_m) }
 {
-    let verdict = check_tubes(set, body_radius_m);
-    match verdict {
-        Verdict::Accepted => {
-            let one = tube_at(set, body_radius_m);
-            joins::accepted(rings::ring(one, set.base_angle_rad, set.count))
-        }
-        Verdict::Refused(refusal) => joins::refused(refusal),
-    }
+    check_tubes(set, body_radius_m)?;
+    let one = tube_at(set, body_radius_m);
+    Ok(rings::ring(one, set.base_angle_rad, set.count))
 }
 
 // Returns the closing radius itself. No ring of one or two tubes closes, and theirs is the body's radius.
@@ -143,30 +126,11 @@ fn closing_value(body_radius_m: f64, count: usize) -> f64
 
 // Returns the outer radius of `count` tubes that close the ring around a body, each touching the body and its two
 // neighbours. The radius is held to no limit.
-pub fn closing_radius_m(body_radius_m: f64, count: usize) -> ClosingRadius
+#[tactic(auto, unfolding(crate::specs::Closing::closing_of))]
+pub fn closing_radius_m(body_radius_m: f64, count: usize) -> Result<f64, Refusal>
     ensures { IsClosing result (closing_of body_radius_m count) }
 {
-    let v = limits::check_count(count);
-    let verdict = first_refusal(v, limits::check_length(limits::BODY_RADIUS, body_radius_m));
-    match verdict {
-        Verdict::Accepted => closed(closing_value(body_radius_m, count)),
-        Verdict::Refused(refusal) => refused(refusal),
-    }
-}
-
-fn closed(radius_m: f64) -> ClosingRadius
-    ensures { result ≡ closed_at radius_m }
-{
-    let verdict = Verdict::Accepted;
-    ClosingRadius { verdict, radius_m }
-}
-
-fn refused(refusal: Refusal) -> ClosingRadius
-    ensures { result ≡ refused_radius refusal }
-{
-    let verdict = Verdict::Refused(refusal);
-    ClosingRadius {
-        verdict,
-        radius_m: 0.0,
-    }
+    limits::check_count(count)?;
+    limits::check_length(limits::BODY_RADIUS, body_radius_m)?;
+    Ok(closing_value(body_radius_m, count))
 }

@@ -1,7 +1,7 @@
 -- `drill::drill` meets its contract: its checks are the definition's, in its order, and each arm knows its planform. Assumes nothing.
+use Rattle.std.specs.Prelude.{Ok}
 use mathlib.Core.List.{◌∷◌, []}
 use mathlib.Core.Path.{◌≡◌, sym, ap, subst, ◌∙◌}
-use Rattle.refusals.specs.declared.Verdict.TheVariants.{Accepted}
 use Rattle.refusals.proofs.Given.{is_answer}
 use Rattle.planforms.specs.declared.Planform.{Planform}
 use Rattle.outlines.specs.Outlines.{planform_check}
@@ -13,23 +13,23 @@ use Rattle.drill.proofs.Checks.{before, told, refused, no_corners, in_steps_lem,
 use Rattle.drill.proofs.Checks.{trapezoid_lengths, outline_lengths, outline_fits}
 use Rattle.drill.proofs.drill.Goals as goal
 
-pub returns-in-Refused : goal.returns-in-Refused
-returns-in-Refused c =
+pub returns-in-Err : goal.returns-in-Err
+returns-in-Err c =
     let a = c.args in
     is_answer (refused a.planform a.points.now a.x_m a.height_m _
     (sym (told a.planform a.points.now a.x_m a.height_m c.check_planform-v.ensures.is c.check_length.ensures c.first_refusal-v.ensures
-    c.check_length-2.ensures c.first_refusal-v-2.ensures) ∙ c.in-Refused.is))
+    c.check_length-2.ensures c.first_refusal-v-2.ensures) ∙ c.in-Err.is))
 
 pub drill_trapezoid-requires : goal.drill_trapezoid-requires
 drill_trapezoid-requires c =
     let a = c.args in
-    let ok : before a.planform a.points.now a.x_m a.height_m ≡ Accepted =
+    let ok : before a.planform a.points.now a.x_m a.height_m ≡ Ok tt =
     sym (told a.planform a.points.now a.x_m a.height_m c.check_planform-v.ensures.is c.check_length.ensures c.first_refusal-v.ensures
     c.check_length-2.ensures c.first_refusal-v-2.ensures) ∙ c.in_default.is in
     let points = a.points.now in
     let taken = planform_accepted a.planform points a.x_m a.height_m ok in
     trapezoid_lengths _ _ _ _ points (a.x_m ∷ a.height_m ∷ [])
-    (subst (λ (p : Planform). planform_check p points ≡ Accepted) c.in-Trapezoid.is taken)
+    (subst (λ (p : Planform). planform_check p points ≡ Ok tt) c.in-Trapezoid.is taken)
     (one_more a.x_m (a.height_m ∷ []) (x_length a.planform points a.x_m a.height_m ok)
     (one_more a.height_m [] (height_length a.planform points a.x_m a.height_m ok) none))
 
@@ -37,11 +37,11 @@ pub drill_outline-requires : goal.drill_outline-requires
 unfolding planform_check
 drill_outline-requires c =
     let a = c.args in
-    let ok : before a.planform a.points.now a.x_m a.height_m ≡ Accepted =
+    let ok : before a.planform a.points.now a.x_m a.height_m ≡ Ok tt =
     sym (told a.planform a.points.now a.x_m a.height_m c.check_planform-v.ensures.is c.check_length.ensures c.first_refusal-v.ensures
     c.check_length-2.ensures c.first_refusal-v-2.ensures) ∙ c.in_default.is in
     let points = a.points.now in
-    let taken = subst (λ (p : Planform). planform_check p points ≡ Accepted) c.in-Outline.is
+    let taken = subst (λ (p : Planform). planform_check p points ≡ Ok tt) c.in-Outline.is
     (planform_accepted a.planform points a.x_m a.height_m ok) in
     let fit = outline_fits points taken in (
       one_more a.x_m (a.height_m ∷ points) (x_length a.planform points a.x_m a.height_m ok)
@@ -53,7 +53,7 @@ drill_outline-requires c =
 pub returns-in-Trapezoid : goal.returns-in-Trapezoid
 returns-in-Trapezoid c =
     let a = c.args in
-    let ok : before a.planform a.points.now a.x_m a.height_m ≡ Accepted =
+    let ok : before a.planform a.points.now a.x_m a.height_m ≡ Ok tt =
     sym (told a.planform a.points.now a.x_m a.height_m c.check_planform-v.ensures.is c.check_length.ensures c.first_refusal-v.ensures
     c.check_length-2.ensures c.first_refusal-v-2.ensures) ∙ c.in_default.is in
     let points = a.points.now in
@@ -66,7 +66,7 @@ returns-in-Trapezoid c =
 pub returns-in-Ellipse : goal.returns-in-Ellipse
 returns-in-Ellipse c =
     let a = c.args in
-    let ok : before a.planform a.points.now a.x_m a.height_m ≡ Accepted =
+    let ok : before a.planform a.points.now a.x_m a.height_m ≡ Ok tt =
     sym (told a.planform a.points.now a.x_m a.height_m c.check_planform-v.ensures.is c.check_length.ensures c.first_refusal-v.ensures
     c.check_length-2.ensures c.first_refusal-v-2.ensures) ∙ c.in_default.is in
     is_answer (no_corners a.planform a.points.now a.x_m a.height_m ok (ap has_corners c.in-Ellipse.is))
@@ -74,7 +74,7 @@ returns-in-Ellipse c =
 pub returns-in-Outline : goal.returns-in-Outline
 returns-in-Outline c =
     let a = c.args in
-    let ok : before a.planform a.points.now a.x_m a.height_m ≡ Accepted =
+    let ok : before a.planform a.points.now a.x_m a.height_m ≡ Ok tt =
     sym (told a.planform a.points.now a.x_m a.height_m c.check_planform-v.ensures.is c.check_length.ensures c.first_refusal-v.ensures
     c.check_length-2.ensures c.first_refusal-v-2.ensures) ∙ c.in_default.is in
     let points = a.points.now in

@@ -3,11 +3,11 @@ use mathlib.Core.Path.{sym, ◌∙◌}
 use Rattle.figures.specs.Areas.{concluded_area}
 use Rattle.figures.proofs.concluded_area.Goals as goal
 
-pub returns-in-Accepted : goal.returns-in-Accepted
+pub returns-in-Ok : goal.returns-in-Ok
 unfolding concluded_area
-returns-in-Accepted c = rw (sym c.conclusion-verdict.ensures ∙ c.in-Accepted.is)
+returns-in-Ok c = rw (sym c.conclusion-verdict.ensures ∙ c.in-Ok.is)
 
-pub returns-in-Refused : goal.returns-in-Refused
+pub returns-in-Err : goal.returns-in-Err
 unfolding concluded_area
-returns-in-Refused c =
-    rw (sym c.conclusion-verdict.ensures ∙ c.in-Refused.is) c.refused_area.ensures
+returns-in-Err c =
+    rw (sym c.conclusion-verdict.ensures ∙ c.in-Err.is) c.refused_area.ensures

@@ -5,17 +5,17 @@ use Rattle.figures.proofs.Answers.{area_worked, area_refused}
 use Rattle.figures.proofs.geometry.Goals as goal
 
 pub work_area-requires : goal.work_area-requires
-work_area-requires c = sym c.check_area-verdict.ensures.is ∙ c.in-Accepted.is
+work_area-requires c = sym c.check_area-verdict.ensures.is ∙ c.in-Ok.is
 
-pub returns-in-Accepted : goal.returns-in-Accepted
-returns-in-Accepted c =
+pub returns-in-Ok : goal.returns-in-Ok
+returns-in-Ok c =
     let a = c.args in
     let f64s = planform_f64 a.planform _ _ c.well_formed.0 c.shared_slice_known-1.given in
     area_worked a.planform a.points.now a.limit a.scratch.now _ _ f64s
-    (sym c.check_area-verdict.ensures.is ∙ c.in-Accepted.is) c.work_area.ensures
+    (sym c.check_area-verdict.ensures.is ∙ c.in-Ok.is) c.work_area.ensures
 
-pub returns-in-Refused : goal.returns-in-Refused
-returns-in-Refused c =
+pub returns-in-Err : goal.returns-in-Err
+returns-in-Err c =
     let a = c.args in
     area_refused a.planform a.points.now a.limit a.scratch.now _ _ _
-    (sym c.check_area-verdict.ensures.is ∙ c.in-Refused.is) c.refused_area.ensures refl
+    (sym c.check_area-verdict.ensures.is ∙ c.in-Err.is) c.refused_area.ensures refl

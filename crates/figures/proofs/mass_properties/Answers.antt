@@ -5,17 +5,17 @@ use Rattle.figures.proofs.Answers.{set_worked, set_refused}
 use Rattle.figures.proofs.mass_properties.Goals as goal
 
 pub work_set-requires : goal.work_set-requires
-work_set-requires c = sym c.check_set-verdict.ensures.is ∙ c.in-Accepted.is
+work_set-requires c = sym c.check_set-verdict.ensures.is ∙ c.in-Ok.is
 
-pub returns-in-Accepted : goal.returns-in-Accepted
-returns-in-Accepted c =
+pub returns-in-Ok : goal.returns-in-Ok
+returns-in-Ok c =
     let a = c.args in
     let f64s = set_f64 a.set _ _ c.well_formed.0 c.shared_slice_known-1.given in
     set_worked a.set a.points.now a.limit a.scratch.now _ _ f64s
-    (sym c.check_set-verdict.ensures.is ∙ c.in-Accepted.is) c.work_set.ensures
+    (sym c.check_set-verdict.ensures.is ∙ c.in-Ok.is) c.work_set.ensures
 
-pub returns-in-Refused : goal.returns-in-Refused
-returns-in-Refused c =
+pub returns-in-Err : goal.returns-in-Err
+returns-in-Err c =
     let a = c.args in
-    set_refused a.set a.points.now a.limit a.scratch.now _ _ _ (sym c.check_set-verdict.ensures.is ∙ c.in-Refused.is)
+    set_refused a.set a.points.now a.limit a.scratch.now _ _ _ (sym c.check_set-verdict.ensures.is ∙ c.in-Err.is)
     c.bare_figures.ensures refl

@@ -7,12 +7,12 @@ use Rattle.jobs.proofs.change_by_value.Goals as goal
 pub returns-then-over : goal.returns-then-over
 returns-then-over c = is_answer (c.keep_density.ensures ∙ sym (change_ended _ _ c.if-over.true))
 
-pub returns-in-Accepted : goal.returns-in-Accepted
-returns-in-Accepted c =
+pub returns-in-Ok : goal.returns-in-Ok
+returns-in-Ok c =
     is_answer (c.take_density.ensures
-    ∙ sym (change_taken _ _ c.if-over.false (sym c.check_density-verdict.ensures ∙ c.in-Accepted.is)))
+    ∙ sym (change_taken _ _ c.if-over.false (sym c.check_density-verdict.ensures ∙ c.in-Ok.is)))
 
-pub returns-in-Refused : goal.returns-in-Refused
-returns-in-Refused c =
-    is_answer (c.keep_density-in-Refused.ensures
-    ∙ sym (change_refused _ _ _ c.if-over.false (sym c.check_density-verdict.ensures ∙ c.in-Refused.is)))
+pub returns-in-Err : goal.returns-in-Err
+returns-in-Err c =
+    is_answer (c.keep_density-in-Err.ensures
+    ∙ sym (change_refused _ _ _ c.if-over.false (sym c.check_density-verdict.ensures ∙ c.in-Err.is)))

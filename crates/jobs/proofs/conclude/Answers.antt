@@ -10,18 +10,18 @@ use Rattle.jobs.proofs.conclude.Goals as goal
 pub concluded_at-requires : goal.concluded_at-requires
 concluded_at-requires c =
     (count_within _ (sym c.check_count.ensures
-    ∙ (both _ _ (sym c.first_refusal-verdict.ensures ∙ c.in-Accepted.is)).0)).1
+    ∙ (both _ _ (sym c.first_refusal-verdict.ensures ∙ c.in-Ok.is)).0)).1
 
-pub returns-in-Accepted : goal.returns-in-Accepted
+pub returns-in-Ok : goal.returns-in-Ok
 unfolding outcome_of
-returns-in-Accepted c =
+returns-in-Ok c =
     let checked = c.first_refusal-verdict.ensures
     ∙ ap₂ first_refusal c.check_count.ensures c.check_density.ensures in
-    c.concluded_at.ensures ∙ sym (given _ _ (sym checked ∙ c.in-Accepted.is))
+    c.concluded_at.ensures ∙ sym (given _ _ (sym checked ∙ c.in-Ok.is))
 
-pub returns-in-Refused : goal.returns-in-Refused
+pub returns-in-Err : goal.returns-in-Err
 unfolding outcome_of
-returns-in-Refused c =
+returns-in-Err c =
     let checked = c.first_refusal-verdict.ensures
     ∙ ap₂ first_refusal c.check_count.ensures c.check_density.ensures in
-    c.bare_figures.ensures ∙ sym (withheld _ _ _ (sym checked ∙ c.in-Refused.is))
+    c.bare_figures.ensures ∙ sym (withheld _ _ _ (sym checked ∙ c.in-Err.is))

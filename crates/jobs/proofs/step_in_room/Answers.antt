@@ -11,16 +11,16 @@ returns-then-job c = does_by (on_ended _ c.if-job.true) (refl, refl)
 pub work_next-onward-requires : goal.work_next-onward-requires
 work_next-onward-requires c =
     run_within _ _
-    (in_room c.args.job _ c.if-job.false (sym c.check_limit-verdict.ensures ∙ c.in-Accepted.is)
+    (in_room c.args.job _ c.if-job.false (sym c.check_limit-verdict.ensures ∙ c.in-Ok.is)
     c.requires)
 
-pub returns-in-Accepted : goal.returns-in-Accepted
-returns-in-Accepted c =
+pub returns-in-Ok : goal.returns-in-Ok
+returns-in-Ok c =
     let job = c.args.job in
-    does_by (on_works job c.if-job.false (sym c.check_limit-verdict.ensures ∙ c.in-Accepted.is))
+    does_by (on_works job c.if-job.false (sym c.check_limit-verdict.ensures ∙ c.in-Ok.is))
     (c.after_strip.ensures ∙ ap (after_strip job) c.work_next-onward.ensures.0, c.work_next-onward.ensures.1)
 
-pub returns-in-Refused : goal.returns-in-Refused
-returns-in-Refused c =
-    does_by (on_refused c.args.job _ c.if-job.false (sym c.check_limit-verdict.ensures ∙ c.in-Refused.is))
+pub returns-in-Err : goal.returns-in-Err
+returns-in-Err c =
+    does_by (on_refused c.args.job _ c.if-job.false (sym c.check_limit-verdict.ensures ∙ c.in-Err.is))
     (c.end_refused.ensures, refl)

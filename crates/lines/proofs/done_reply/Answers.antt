@@ -7,15 +7,15 @@ use Rattle.answers.specs.declared.Shape.TheVariants.{Done as DoneShape, DoneRefu
 use Rattle.answers.specs.Answers.{reply}
 use Rattle.lines.proofs.done_reply.Goals as goal
 
-pub returns-in-Accepted : goal.returns-in-Accepted
-returns-in-Accepted c =
+pub returns-in-Ok : goal.returns-in-Ok
+returns-in-Ok c =
     let s = c.args in
-    rw c.in-Accepted.is
+    rw c.in-Ok.is
     (ap (λ (l : List Float). record { shape = DoneShape; figures = l; counts = s.screen ∷ s.f.intervals ∷ s.f.samples ∷ 0 ∷ [] })
     c.numbers-figures.ensures)
 
-pub returns-in-Refused : goal.returns-in-Refused
-returns-in-Refused c =
+pub returns-in-Err : goal.returns-in-Err
+returns-in-Err c =
     let s = c.args in
-    rw c.in-Refused.is
+    rw c.in-Err.is
     (ap (λ (number : ℕ). reply DoneRefusedShape [] (s.screen ∷ number ∷ [])) c.number-number.ensures)

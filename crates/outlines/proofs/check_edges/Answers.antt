@@ -7,10 +7,10 @@ use Rattle.outlines.proofs.check_edges.Goals as goal
 pub loop-i-init : goal.loop-i-init
 loop-i-init c = refl
 
-pub returns-in-Refused : goal.returns-in-Refused
-returns-in-Refused c =
+pub returns-in-Err : goal.returns-in-Err
+returns-in-Err c =
     stops _ _ _ _ c.loop-i.invariant _ c.loop-i-test.true
-    (sym c.check_edge.ensures ∙ c.in-Refused.is)
+    (sym c.check_edge.ensures ∙ c.in-Err.is)
 
 pub overflow_add-i : goal.overflow_add-i
 overflow_add-i c = omega arith

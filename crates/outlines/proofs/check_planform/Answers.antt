@@ -1,7 +1,5 @@
 -- `outlines::check_planform` meets its contract: each arm knows its case. Assumes nothing.
-use mathlib.Core.List.{◌∷◌, []}
 use Rattle.refusals.proofs.Given.{is_answer}
-use Rattle.refusals.proofs.Order.{in_order}
 use Rattle.outlines.specs.Outlines.{planform_check}
 use Rattle.outlines.proofs.check_planform.Goals as goal
 
@@ -11,13 +9,7 @@ returns-in-Trapezoid c = is_answer (rw c.in-Trapezoid.is c.check_trapezoid.ensur
 
 pub returns-in-Ellipse : goal.returns-in-Ellipse
 unfolding planform_check
-returns-in-Ellipse c = is_answer (rw (
-  c.in-Ellipse.is,
-  c.first_refusal.ensures,
-  c.check_length.ensures,
-  c.check_length-v.ensures,
-)
-    (in_order _ (_ ∷ [])))
+returns-in-Ellipse c = is_answer (rw c.in-Ellipse.is c.check_ellipse.ensures)
 
 pub returns-in-Outline : goal.returns-in-Outline
 unfolding planform_check

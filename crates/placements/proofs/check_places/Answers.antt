@@ -9,10 +9,10 @@ pub loop-k-init : goal.loop-k-init
 unfolding places_check
 loop-k-init c = rw c.count_places-n.ensures
 
-pub returns-in-Refused : goal.returns-in-Refused
-returns-in-Refused c =
+pub returns-in-Err : goal.returns-in-Err
+returns-in-Err c =
     stops _ _ _ _ c.loop-k.invariant _ c.loop-k-test.true
-    (sym (c.check.ensures ∙ ap place_check c.place_at-place.ensures) ∙ c.in-Refused.is)
+    (sym (c.check.ensures ∙ ap place_check c.place_at-place.ensures) ∙ c.in-Err.is)
 
 pub loop-k-preserved : goal.loop-k-preserved
 loop-k-preserved c =

@@ -1,5 +1,5 @@
 -- `refusals::verdict_number` meets its contract: each arm knows its case. Assumes nothing.
 use Rattle.refusals.proofs.verdict_number.Goals as goal
 
-pub returns-in-Refused : goal.returns-in-Refused
-returns-in-Refused c = rw c.in-Refused.is c.number.ensures
+pub returns-in-Err : goal.returns-in-Err
+returns-in-Err c = rw c.in-Err.is c.number.ensures
