@@ -67,7 +67,7 @@ fn is_massless_inertia(mass: f64, largest: f64) -> bool
 }
 
 fn refused(fault: TensorFault) -> Verdict
-    ensures { result ≡ Verdict.Refused (Refusal.Tensor fault) }
+    ensures { result ≡ Err (Refusal.Tensor fault) }
 {
     Err(Refusal::Tensor(fault))
 }

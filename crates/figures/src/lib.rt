@@ -4,7 +4,6 @@
 #![tactic(auto)]
 
 ghost use Rattle.std.specs.Prelude.{◌≡◌, ◌≤◌, length};
-ghost use Rattle.refusals.specs.declared.Verdict.TheVariants.{Accepted};
 ghost use Rattle.refusals.specs.Calls.{Does};
 ghost use Rattle.fins.specs.Fins.{set_check, area_check};
 ghost use Rattle.figures.specs.Figures.{bare_figures, size_check, conclusion_of, concluded_set, concluded_at};
@@ -107,7 +106,7 @@ pub fn concluded_at(set: FinSet, points: &[f64], total: Integral) -> Figures
 
 // Works the strips of an accepted set, and returns its figures.
 fn work_set(set: FinSet, points: &[f64], limit: usize, scratch: &mut [f64]) -> Figures
-    requires { set_check set points.now limit (length scratch.old) ≡ Accepted }
+    requires { set_check set points.now limit (length scratch.old) ≡ Ok tt }
     ensures { Does (worked_set set points.now limit) result scratch.old scratch.new }
 {
     let planform = set.planform;
@@ -180,7 +179,7 @@ fn concluded_area(scale_m: f64, total: Integral) -> Area
 
 // Works the strips of an accepted planform, and returns its area.
 fn work_area(planform: Planform, points: &[f64], limit: usize, scratch: &mut [f64]) -> Area
-    requires { area_check planform points.now limit (length scratch.old) ≡ Accepted }
+    requires { area_check planform points.now limit (length scratch.old) ≡ Ok tt }
     ensures { Does (worked_planform planform points.now limit)
         result scratch.old scratch.new }
 {

@@ -65,14 +65,14 @@ fn chords_found(planform: Planform, points: &[f64], h: f64) -> Chords
 }
 
 fn listed(count: usize) -> ChordList
-    ensures { result ≡ record { verdict = Verdict.Accepted; count = count } }
+    ensures { result ≡ record { verdict = Ok tt; count = count } }
 {
     let verdict = Ok(());
     ChordList { verdict, count }
 }
 
 fn refused(refusal: Refusal) -> ChordList
-    ensures { result ≡ record { verdict = Verdict.Refused refusal; count = 0 } }
+    ensures { result ≡ record { verdict = Err refusal; count = 0 } }
 {
     let verdict = Err(refusal);
     ChordList { verdict, count: 0 }

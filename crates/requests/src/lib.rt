@@ -82,7 +82,7 @@ pub fn area_figures(
 }
 
 fn no_chords() -> ChordList
-    ensures { result ≡ record { verdict = Verdict.Refused Refusal.NoForm; count = 0 } }
+    ensures { result ≡ record { verdict = Err Refusal.NoForm; count = 0 } }
 {
     let verdict = Err(Refusal::NoForm);
     ChordList { verdict, count: 0 }

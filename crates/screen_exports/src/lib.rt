@@ -53,7 +53,7 @@ fn engine_fits(numbers: usize, counts: usize) -> bool
 
 // Returns the reply to numbers that stand for no set and no density.
 fn no_form() -> Reply
-    ensures { result ≡ record { verdict = Verdict.Refused Refusal.NoForm; samples = 0 } }
+    ensures { result ≡ record { verdict = Err Refusal.NoForm; samples = 0 } }
 {
     let verdict = Err(Refusal::NoForm);
     Reply {
