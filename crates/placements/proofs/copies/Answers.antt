@@ -4,4 +4,4 @@ use Rattle.placements.proofs.Counts.{counted}
 use Rattle.placements.proofs.copies.Goals as goal
 
 pub placed_copies-requires : goal.placed_copies-requires
-placed_copies-requires c = ?
+placed_copies-requires c = counted _ _ _ (sym c.check_copies.ensures ∙ c.in_ok-check_copies.was)
