@@ -18,4 +18,11 @@ pub tube_check_by_group : (set : TubeFinSet) (radius : Float) → tube_check set
     ∷ refuse_when (lt set.outer_radius_m set.thickness_m) WallOverRadius
     ∷ []))
 unfolding mount_check tube_check
-tube_check_by_group set radius = sym (in_two (mount_checks set radius) _)
+tube_check_by_group set radius =
+    sym
+    (in_two (mount_checks set radius)
+    (length_check tube_length_field set.length_m
+    ∷ length_check outer_radius_field set.outer_radius_m
+    ∷ wall_check set.thickness_m
+    ∷ refuse_when (lt set.outer_radius_m set.thickness_m) WallOverRadius
+    ∷ []))

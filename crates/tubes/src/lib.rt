@@ -8,7 +8,6 @@
 #![tactic(auto)]
 
 ghost use Rattle.std.specs.Prelude.{◌≡◌, ◌≤◌};
-ghost use Rattle.refusals.specs.Given.{IsVerdict};
 ghost use Rattle.joins.specs.Joins.{IsJoined};
 ghost use Rattle.tubes.specs.Tubes.{hollow_cylinder, tube_at, wall_check, mount_check, tube_check, tubes_of};
 ghost use Rattle.tubes.specs.Closing.{closing_value, IsClosing, closing_of};
@@ -89,9 +88,8 @@ fn check_mount(set: TubeFinSet, body_radius_m: f64) -> Verdict
 }
 
 // Checks a ring of tubes and returns its first refusal, in the order of document 02, Paper 3.
-#[tactic(auto, using(refusals::proofs::Given::is_answer, crate::proofs::Groups::tube_check_by_group))]
 fn check_tubes(set: TubeFinSet, body_radius_m: f64) -> Verdict
-    ensures { IsVerdict result (tube_check set body_radius_m) }
+    ensures { result ≡ tube_check set body_radius_m }
 {
     check_mount(set, body_radius_m)?;
     limits::check_length(limits::TUBE_LENGTH, set.length_m)?;
