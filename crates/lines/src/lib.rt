@@ -22,7 +22,7 @@ ghost use Rattle.lines.specs.Lines.{turn_effect, effect_of, line_effect};
 ghost use Rattle.lines.specs.Lines.{memory_in, lent_in, Serves, LeavesLent, Answers};
 
 use answers::{ANSWER_BYTES, Reply, Shape};
-use bodies::BODY_NUMBERS;
+use bodies::{BODY_NUMBERS, Body};
 use drill::Answer;
 use engines::Turn;
 use figures::Figures;

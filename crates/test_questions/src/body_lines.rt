@@ -68,9 +68,7 @@ fn case_place(refusal: Refusal) -> usize {
 fn verdict_is(verdict: Verdict, number: usize, place: usize) -> bool {
     match verdict {
         Ok(()) => number == 0,
-        Err(refusal) => {
-            (refusals::number(refusal) == number) & (case_place(refusal) == place)
-        }
+        Err(refusal) => { (refusals::number(refusal) == number) & (case_place(refusal) == place) }
     }
 }
 

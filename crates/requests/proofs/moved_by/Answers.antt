@@ -16,7 +16,6 @@ pub returns-then-part-ne-BODY_NUMBERS : goal.returns-then-part-ne-BODY_NUMBERS
 unfolding moved_by
 returns-then-part-ne-BODY_NUMBERS c =
     simp (eq-eqb _ _ c.if-whole-ne-BODY_NUMBERS.false, ne_eqb _ _ c.if-part-ne-BODY_NUMBERS.true)
-   
 
 pub returns-then-offset-ne3 : goal.returns-then-offset-ne3
 unfolding moved_by

@@ -18,4 +18,3 @@ pub returns-in-Unknown : goal.returns-in-Unknown
 unfolding ring_by
 returns-in-Unknown c =
     rw (eq-eqb _ _ c.if-numbers-ne6.false, sym c.numbered_density-found.ensures ∙ c.in-Unknown.is)
-   

@@ -14,7 +14,6 @@ pub returns-then-part-ne-BODY_NUMBERS : goal.returns-then-part-ne-BODY_NUMBERS
 unfolding without_by
 returns-then-part-ne-BODY_NUMBERS c =
     simp (eq-eqb _ _ c.if-whole-ne-BODY_NUMBERS.false, ne_eqb _ _ c.if-part-ne-BODY_NUMBERS.true)
-   
 
 pub returns : goal.returns
 unfolding without_by
