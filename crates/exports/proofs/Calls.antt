@@ -114,8 +114,9 @@ module _ {count : ℕ} {body_radius : Float} {radius : List Float} {values : Lis
   pub closing_refused : NoRoom 1 radius 2 values → ClosingCall count body_radius radius values 18 radius values
   closing_refused short = let none = short.none in record { returned = rw none; figures = rw none; counted = rw none }
 
-  pub closing_written : 1 ≤ length radius → 2 ≤ length values → {f : Result Float Refusal} {v : Verdict} {x : Float} {r : ℕ} {radius' : List Float}
-      {values' : List ℕ} → f ≡ closing_of body_radius count → v ≡ verdict_in f → x ≡ radius_told f →
+  pub closing_written : 1 ≤ length radius → 2 ≤ length values
+      → {f : Result Float Refusal} {v : Verdict} {x : Float} {r : ℕ} {radius' : List Float} {values' : List ℕ} →
+      f ≡ closing_of body_radius count → v ≡ verdict_in f → x ≡ radius_told f →
       radius' ≡ over (x ∷ []) radius → values' ≡ with_values values v → r ≡ number_in v →
       ClosingCall count body_radius radius values r radius' values'
   closing_written h k e f g b c n =
@@ -141,7 +142,8 @@ module _ {asked : Result Body Refusal} {body : List Float} {values : List ℕ} w
   pub body_refused : NoRoom body_numbers body 2 values → BodyCall asked body values 18 body values
   body_refused short = let none = short.none in record { returned = rw none; figures = rw none; counted = rw none }
 
-  pub body_written : body_numbers ≤ length body → 2 ≤ length values → {v : Verdict} {told : Body} {r : ℕ} {body' : List Float} {values' : List ℕ} →
+  pub body_written : body_numbers ≤ length body → 2 ≤ length values
+      → {v : Verdict} {told : Body} {r : ℕ} {body' : List Float} {values' : List ℕ} →
       v ≡ verdict_in asked → told ≡ body_told asked → body' ≡ with_body body 0 told → values' ≡ with_values values v →
       r ≡ number_in v → BodyCall asked body values r body' values'
   body_written h k f g b c n =

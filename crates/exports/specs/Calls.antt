@@ -98,7 +98,8 @@ pub record DrillCall (planform : NumberedPlanform) (points : List Float) (x heig
 
 pub record ClosingCall (count : ℕ) (body_radius : Float) (radius : List Float) (values : List ℕ) (r : ℕ)
     (radius' : List Float) (values' : List ℕ) : Type 0 where
-  pub returned : r ≡ cond (room 1 radius 2 values) (number_in (verdict_in (closing_of body_radius count))) (number_of NoForm)
+  pub returned :
+      r ≡ cond (room 1 radius 2 values) (number_in (verdict_in (closing_of body_radius count))) (number_of NoForm)
   pub figures :
       radius' ≡ cond (room 1 radius 2 values) (over (radius_told (closing_of body_radius count) ∷ []) radius) radius
   pub counted : values'
@@ -107,7 +108,8 @@ pub record ClosingCall (count : ℕ) (body_radius : Float) (radius : List Float)
 -- ---- a join
 
 pub record JoinCall (bodies body : List Float) (r : ℕ) (body' : List Float) : Type 0 where
-  pub returned : r ≡ cond (leb body_numbers (length body)) (number_in (verdict_in (combine_of bodies))) (number_of NoForm)
+  pub returned :
+      r ≡ cond (leb body_numbers (length body)) (number_in (verdict_in (combine_of bodies))) (number_of NoForm)
   pub figures : body' ≡ cond (leb body_numbers (length body)) (with_body body 0 (body_told (combine_of bodies))) body
 
 -- ---- a ring of tubes (document 02, Paper 3), copies of a body, and a part moved or taken off (Paper 13): the answer
@@ -129,7 +131,8 @@ pub record MomentsCall (numbers moments : List Float) (values : List ℕ) (r : �
   pub returned : r ≡ cond (room 3 moments 2 values) (number_in (verdict_in (tensor_moments numbers))) (number_of NoForm)
   pub figures :
       moments' ≡ cond (room 3 moments 2 values) (over (moments_numbers (tensor_moments numbers)) moments) moments
-  pub counted : values' ≡ cond (room 3 moments 2 values) (with_values values (verdict_in (tensor_moments numbers))) values
+  pub counted :
+      values' ≡ cond (room 3 moments 2 values) (with_values values (verdict_in (tensor_moments numbers))) values
 
 -- ---- the check of a body by its numbers
 

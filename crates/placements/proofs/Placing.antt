@@ -25,8 +25,8 @@ module _ (b : Body) (places : ℕ → Placement) (n : ℕ) {count : ℕ} {same :
   unfolding placed_of
   at_here t k = k ∙ rw (sym test ∙ t)
 
-  pub elsewhere : {r : Result Body Refusal} → (eqb count 1 && same) ≡ false → 1 ≤ n → n ≤ 32 → r ≡ joined_of (λ k. copy_at b (places k)) count
-      → r ≡ Ok (placed_of b places n)
+  pub elsewhere : {r : Result Body Refusal} → (eqb count 1 && same) ≡ false → 1 ≤ n → n ≤ 32
+      → r ≡ joined_of (λ k. copy_at b (places k)) count → r ≡ Ok (placed_of b places n)
   unfolding placed_of
   elsewhere t l h k = k ∙ rw (p, sym test ∙ t, le-leb 1 n l, le-leb n 32 h)
 

@@ -16,8 +16,8 @@ use Rattle.lines.proofs.Served.{known, stays, set_served, area_served, submit_se
 use Rattle.lines.proofs.request_reply.Goals as goal
 
 -- a body of one or two others, and of what else was cut from the figures
-of_two : (f : List Float → List Float → Result Body Refusal) {a b x y : List Float} {j : Result Body Refusal} {r : Reply} → a ≡ x → b ≡ y → j ≡ f a b
-    → r ≡ body_reply BodyShape j → r ≡ body_reply BodyShape (f x y)
+of_two : (f : List Float → List Float → Result Body Refusal) {a b x y : List Float} {j : Result Body Refusal} {r : Reply} → a ≡ x → b ≡ y
+    → j ≡ f a b → r ≡ body_reply BodyShape j → r ≡ body_reply BodyShape (f x y)
 of_two f e g h k = k ∙ ap (body_reply BodyShape) (h ∙ ap₂ f e g)
 
 part_moved : {a b d x y z : List Float} {j : Result Body Refusal} {r : Reply} → a ≡ x → b ≡ y → d ≡ z → j ≡ moved_by a b d
