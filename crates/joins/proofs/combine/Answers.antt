@@ -1,5 +1,5 @@
 -- `joins::combine` meets its contract: the definition goes by the same test and by the count's check. Assumes nothing.
-use borrow.Author.Tests.{eq-eqb, ne_eqb}
+use borrow.Author.Tests.{ne_eqb}
 use Rattle.refusals.proofs.Given.{is_answer}
 use Rattle.joins.proofs.combine.Goals as goal
 
