@@ -28,8 +28,8 @@ use Rattle.bodies.specs.Vectors.{zero_vector}
 use Rattle.bodies.specs.Tensors.{diagonal}
 use Rattle.bodies.specs.Bodies.{inertia_about_of}
 use Rattle.bodies.specs.Layout.{numbers_of}
-use Rattle.joins.specs.Joins.{in_order, sums_of, inertia_of, join_of, combine_of}
-use Rattle.moments.specs.Moments.{rotate, sweep, sweeps, insert_moment, insert_all, eigenvalues_of, principal_moments_of}
+use Rattle.joins.specs.Joins.{in_order, sums_of, inertia_of, join_of, body_told, combine_of}
+use Rattle.moments.specs.Moments.{rotate, sweep, sweeps, insert_moment, insert_all, eigenvalues_of, moments_told, principal_moments_of}
 use Rattle.body_check.specs.BodyCheck.{largest_magnitude, check_tensor, check_of}
 
 -- a row: what is asked, and the answer that it must have, with figures by their bits
@@ -93,8 +93,8 @@ holds (cosine x r) = is (cos_of (bits x)) r
 holds (pieces n samples) = eqb (length (strip n).pieces) n && eqb (length (strip n).heights) samples
 holds (chord planform h ends) = are (ends_at planform [] (bits h)) ends
 holds (square a b t begins) = are (take 2 (chord_moments Square (bits a) (bits b) (bits t))) begins
-holds (joined given answer) = are (numbers_of (combine_of (map bits given)).body) answer
-holds (moments a b c answer) = are (principal_moments_of (diagonal_tensor a b c)).moments_kg_m2 answer
+holds (joined given answer) = are (numbers_of (body_told (combine_of (map bits given)))) answer
+holds (moments a b c answer) = are (moments_told (principal_moments_of (diagonal_tensor a b c))) answer
 holds (sound a b c) = is_accepted (check_of (body a b c))
 holds (unsound a b c) = is17e (check_of (body a b c))
 

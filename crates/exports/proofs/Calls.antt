@@ -1,5 +1,5 @@
 -- What a call promises follows from what its parts wrote, or from a list that has no room. Assumes nothing.
-use mathlib.Core.Path.{◌≡◌}
+use mathlib.Core.Path.{◌≡◌, ap, ◌∙◌}
 use mathlib.Core.Bool.{false}
 use mathlib.Core.List.{List, [], ◌∷◌}
 use Prim.Native.Nat.{ℕ, ◌≤◌, ◌<◌}
@@ -10,14 +10,17 @@ use Rattle.refusals.specs.Verdict.{Verdict}
 use Rattle.std.specs.Prelude.{Result, Option}
 use Rattle.std.specs.Result.{result_unwrap_or}
 use Rattle.refusals.specs.declared.Refusal.{Refusal}
+use Rattle.floats.specs.Operations.{at}
 use Rattle.refusals.specs.Calls.{Does}
 use Rattle.bodies.specs.Layout.{body_numbers}
-use Rattle.joins.specs.declared.JoinedBody.{JoinedBody}
+use Rattle.std.specs.Prelude.{Result}
+use Rattle.refusals.specs.declared.Refusal.{Refusal}
+use Rattle.refusals.specs.Results.{verdict_in}
+use Rattle.bodies.specs.declared.Body.{Body}
 use Rattle.joins.specs.Flat.{with_body}
-use Rattle.joins.specs.Joins.{combine_of}
-use Rattle.tubes.specs.declared.ClosingRadius.{ClosingRadius}
-use Rattle.tubes.specs.Closing.{closing_of}
-use Rattle.moments.specs.declared.Moments.{Moments}
+use Rattle.joins.specs.Joins.{body_told, combine_of}
+use Rattle.tubes.specs.Closing.{radius_told, closing_of}
+use Rattle.moments.specs.Moments.{moments_told}
 use Rattle.figures.specs.declared.Area.{Area}
 use Rattle.figures.specs.declared.Figures.{Figures}
 use Rattle.planform_chords.specs.PlanformChords.{verdict_of as chords_verdict}
@@ -115,43 +118,61 @@ module _ {count : ℕ} {body_radius : Float} {radius : List Float} {values : Lis
   pub closing_refused : NoRoom 1 radius 2 values → ClosingCall count body_radius radius values 18 radius values
   closing_refused short = let none = short.none in record { returned = rw none; figures = rw none; counted = rw none }
 
-  pub closing_written : 1 ≤ length radius → 2 ≤ length values → {f : ClosingRadius} {r : ℕ} {radius' : List Float} {values' : List ℕ} →
-      f ≡ closing_of body_radius count → radius' ≡ over (f.radius_m ∷ []) radius → values' ≡ with_values values f.verdict →
-      r ≡ number_in f.verdict → ClosingCall count body_radius radius values r radius' values'
-  closing_written h k e b c n =
+  pub closing_written : 1 ≤ length radius → 2 ≤ length values
+      → {f : Result Float Refusal} {v : Verdict} {x : Float} {r : ℕ} {radius' : List Float} {values' : List ℕ} →
+      f ≡ closing_of body_radius count → v ≡ verdict_in f → x ≡ radius_told f →
+      radius' ≡ over (x ∷ []) radius → values' ≡ with_values values v → r ≡ number_in v →
+      ClosingCall count body_radius radius values r radius' values'
+  closing_written h k e f g b c n =
       let fits = has_room 1 radius 2 values h k in
-      record { returned = rw (fits, ← e) n; figures = rw (fits, ← e) b; counted = rw (fits, ← e) c }
+      record {
+        returned = rw (fits, ← e) (n ∙ ap number_in f);
+        figures = rw (fits, ← e) (b ∙ ap (λ (y : Float). over (y ∷ []) radius) g);
+        counted = rw (fits, ← e) (c ∙ ap (with_values values) f);
+      }
 
 module _ {bodies body : List Float} where
   pub join_refused : length body < body_numbers → JoinCall bodies body 18 body
   join_refused h = let none = lt-leb body_numbers (length body) h in record { returned = rw none; figures = rw none }
 
-  pub join_written : body_numbers ≤ length body → {j : JoinedBody} {r : ℕ} {body' : List Float} → j ≡ combine_of bodies →
-      body' ≡ with_body body 0 j.body → r ≡ number_in j.verdict → JoinCall bodies body r body'
-  join_written h e b n =
-      let fits = le-leb body_numbers (length body) h in record { returned = rw (fits, ← e) n; figures = rw (fits, ← e) b }
+  pub join_written : body_numbers ≤ length body → {j : Result Body Refusal} {v : Verdict} {told : Body} {r : ℕ} {body' : List Float} →
+      j ≡ combine_of bodies → v ≡ verdict_in j → told ≡ body_told j → body' ≡ with_body body 0 told → r ≡ number_in v →
+      JoinCall bodies body r body'
+  join_written h e f g b n =
+      let fits = le-leb body_numbers (length body) h in
+      record { returned = rw (fits, ← e) (n ∙ ap number_in f); figures = rw (fits, ← e) (b ∙ ap (with_body body 0) g) }
 
-module _ {asked : JoinedBody} {body : List Float} {values : List ℕ} where
+module _ {asked : Result Body Refusal} {body : List Float} {values : List ℕ} where
   pub body_refused : NoRoom body_numbers body 2 values → BodyCall asked body values 18 body values
   body_refused short = let none = short.none in record { returned = rw none; figures = rw none; counted = rw none }
 
-  pub body_written : body_numbers ≤ length body → 2 ≤ length values → {j : JoinedBody} {r : ℕ} {body' : List Float} {values' : List ℕ} →
-      j ≡ asked → body' ≡ with_body body 0 j.body → values' ≡ with_values values j.verdict →
-      r ≡ number_in j.verdict → BodyCall asked body values r body' values'
-  body_written h k e b c n =
+  pub body_written : body_numbers ≤ length body → 2 ≤ length values
+      → {v : Verdict} {told : Body} {r : ℕ} {body' : List Float} {values' : List ℕ} →
+      v ≡ verdict_in asked → told ≡ body_told asked → body' ≡ with_body body 0 told → values' ≡ with_values values v →
+      r ≡ number_in v → BodyCall asked body values r body' values'
+  body_written h k f g b c n =
       let fits = has_room body_numbers body 2 values h k in
-      record { returned = rw (fits, ← e) n; figures = rw (fits, ← e) b; counted = rw (fits, ← e) c }
+      record {
+        returned = rw fits (n ∙ ap number_in f);
+        figures = rw fits (b ∙ ap (with_body body 0) g);
+        counted = rw fits (c ∙ ap (with_values values) f);
+      }
 
 module _ {numbers moments : List Float} {values : List ℕ} where
   pub moments_refused : NoRoom 3 moments 2 values → MomentsCall numbers moments values 18 moments values
   moments_refused short = let none = short.none in record { returned = rw none; figures = rw none; counted = rw none }
 
-  pub moments_written : 3 ≤ length moments → 2 ≤ length values → {m : Moments} {r : ℕ} {moments' : List Float} {values' : List ℕ} →
-      m ≡ tensor_moments numbers → moments' ≡ over (moments_numbers m) moments → values' ≡ with_values values m.verdict →
-      r ≡ number_in m.verdict → MomentsCall numbers moments values r moments' values'
-  moments_written h k e b c n =
+  pub moments_written : 3 ≤ length moments → 2 ≤ length values → {f : Result (List Float) Refusal} {v : Verdict} {m : List Float} {r : ℕ}
+      {moments' : List Float} {values' : List ℕ} → f ≡ tensor_moments numbers → v ≡ verdict_in f → m ≡ moments_told f →
+      moments' ≡ over (at m 0 ∷ at m 1 ∷ at m 2 ∷ []) moments → values' ≡ with_values values v → r ≡ number_in v →
+      MomentsCall numbers moments values r moments' values'
+  moments_written h k e f g b c n =
       let fits = has_room 3 moments 2 values h k in
-      record { returned = rw (fits, ← e) n; figures = rw (fits, ← e) b; counted = rw (fits, ← e) c }
+      record {
+        returned = rw (fits, ← e) (n ∙ ap number_in f);
+        figures = rw (fits, ← e) (b ∙ ap (λ (l : List Float). over (at l 0 ∷ at l 1 ∷ at l 2 ∷ []) moments) g);
+        counted = rw (fits, ← e) (c ∙ ap (with_values values) f);
+      }
 
 module _ {numbers : List Float} {values : List ℕ} where
   pub check_refused : length values < 2 → CheckCall numbers values 18 values

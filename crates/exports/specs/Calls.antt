@@ -5,6 +5,7 @@ use Rattle.std.specs.Result.{result_unwrap_or}
 use Rattle.floats.specs.Operations.{at}
 use Rattle.refusals.specs.declared.Refusal.{Refusal}
 use Rattle.refusals.specs.declared.Refusal.TheVariants.{NoForm}
+use Rattle.refusals.specs.Results.{verdict_in}
 use Rattle.refusals.specs.Refusals.{number_of}
 use Rattle.planform_chords.specs.PlanformChords.{verdict_of as chords_verdict}
 use Rattle.drill.specs.declared.Place.{Place}
@@ -12,11 +13,11 @@ use Rattle.planforms.specs.declared.Planform.{Planform}
 use Rattle.drill.specs.Drill.{verdict_of, place_number, nearest_of}
 use Rattle.fins.specs.declared.FinSet.{FinSet}
 use Rattle.bodies.specs.Layout.{body_numbers}
-use Rattle.joins.specs.declared.JoinedBody.{JoinedBody}
+use Rattle.bodies.specs.declared.Body.{Body}
 use Rattle.joins.specs.Flat.{with_body}
-use Rattle.joins.specs.Joins.{combine_of}
-use Rattle.tubes.specs.Closing.{closing_of}
-use Rattle.moments.specs.declared.Moments.{Moments}
+use Rattle.joins.specs.Joins.{body_told, combine_of}
+use Rattle.tubes.specs.Closing.{radius_told, closing_of}
+use Rattle.moments.specs.Moments.{moments_told}
 use Rattle.figures.specs.declared.Area.{Area}
 use Rattle.requests.specs.Calls.{numbered_call, numbered_area, numbered_chords, numbered_drill, tensor_moments, body_verdict}
 use Rattle.refusals.specs.Numbered.{number_in}
@@ -98,38 +99,41 @@ pub record DrillCall (planform : Option Planform) (points : List Float) (x heigh
 
 pub record ClosingCall (count : ℕ) (body_radius : Float) (radius : List Float) (values : List ℕ) (r : ℕ)
     (radius' : List Float) (values' : List ℕ) : Type 0 where
-  pub returned : r ≡ cond (room 1 radius 2 values) (number_in (closing_of body_radius count).verdict) (number_of NoForm)
+  pub returned :
+      r ≡ cond (room 1 radius 2 values) (number_in (verdict_in (closing_of body_radius count))) (number_of NoForm)
   pub figures :
-      radius' ≡ cond (room 1 radius 2 values) (over ((closing_of body_radius count).radius_m ∷ []) radius) radius
+      radius' ≡ cond (room 1 radius 2 values) (over (radius_told (closing_of body_radius count) ∷ []) radius) radius
   pub counted : values'
-      ≡ cond (room 1 radius 2 values) (with_values values (closing_of body_radius count).verdict) values
+      ≡ cond (room 1 radius 2 values) (with_values values (verdict_in (closing_of body_radius count))) values
 
 -- ---- a join
 
 pub record JoinCall (bodies body : List Float) (r : ℕ) (body' : List Float) : Type 0 where
-  pub returned : r ≡ cond (leb body_numbers (length body)) (number_in (combine_of bodies).verdict) (number_of NoForm)
-  pub figures : body' ≡ cond (leb body_numbers (length body)) (with_body body 0 (combine_of bodies).body) body
+  pub returned :
+      r ≡ cond (leb body_numbers (length body)) (number_in (verdict_in (combine_of bodies))) (number_of NoForm)
+  pub figures : body' ≡ cond (leb body_numbers (length body)) (with_body body 0 (body_told (combine_of bodies))) body
 
 -- ---- a ring of tubes (document 02, Paper 3), copies of a body, and a part moved or taken off (Paper 13): the answer
 -- is a body, or says why it is refused
 
-pub record BodyCall (j : JoinedBody) (body : List Float) (values : List ℕ) (r : ℕ) (body' : List Float)
+pub record BodyCall (j : Result Body Refusal) (body : List Float) (values : List ℕ) (r : ℕ) (body' : List Float)
     (values' : List ℕ) : Type 0 where
-  pub returned : r ≡ cond (room body_numbers body 2 values) (number_in j.verdict) (number_of NoForm)
-  pub figures : body' ≡ cond (room body_numbers body 2 values) (with_body body 0 j.body) body
-  pub counted : values' ≡ cond (room body_numbers body 2 values) (with_values values j.verdict) values
+  pub returned : r ≡ cond (room body_numbers body 2 values) (number_in (verdict_in j)) (number_of NoForm)
+  pub figures : body' ≡ cond (room body_numbers body 2 values) (with_body body 0 (body_told j)) body
+  pub counted : values' ≡ cond (room body_numbers body 2 values) (with_values values (verdict_in j)) values
 
 -- ---- the principal moments of a tensor by its numbers
 
-abbrev pub moments_numbers : Moments → List Float
-moments_numbers m = at m.moments_kg_m2 0 ∷ at m.moments_kg_m2 1 ∷ at m.moments_kg_m2 2 ∷ []
+abbrev pub moments_numbers : Result (List Float) Refusal → List Float
+moments_numbers found = let m = moments_told found in at m 0 ∷ at m 1 ∷ at m 2 ∷ []
 
 pub record MomentsCall (numbers moments : List Float) (values : List ℕ) (r : ℕ) (moments' : List Float)
     (values' : List ℕ) : Type 0 where
-  pub returned : r ≡ cond (room 3 moments 2 values) (number_in (tensor_moments numbers).verdict) (number_of NoForm)
+  pub returned : r ≡ cond (room 3 moments 2 values) (number_in (verdict_in (tensor_moments numbers))) (number_of NoForm)
   pub figures :
       moments' ≡ cond (room 3 moments 2 values) (over (moments_numbers (tensor_moments numbers)) moments) moments
-  pub counted : values' ≡ cond (room 3 moments 2 values) (with_values values (tensor_moments numbers).verdict) values
+  pub counted :
+      values' ≡ cond (room 3 moments 2 values) (with_values values (verdict_in (tensor_moments numbers))) values
 
 -- ---- the check of a body by its numbers
 

@@ -21,9 +21,8 @@ ghost use Rattle.limits.specs.Limits.{most_samples};
 ghost use Rattle.exports.specs.Calls.{SetCall, AreaCall, ChordsCall, DrillCall, BodyCall, ClosingCall, JoinCall};
 ghost use Rattle.exports.specs.Calls.{MomentsCall, CheckCall};
 
-use bodies::BODY_NUMBERS;
-use joins::JoinedBody;
-use refusals::NO_FORM;
+use bodies::{BODY_NUMBERS, Body};
+use refusals::{NO_FORM, Refusal};
 
 // Writes three figures over the first three numbers.
 fn write_three(figures: &mut [f64], x: f64, y: f64, z: f64)
@@ -37,7 +36,7 @@ fn write_three(figures: &mut [f64], x: f64, y: f64, z: f64)
 
 // Writes the numbers of a body that is answered and two values of a refusal, and returns the number of its verdict.
 // Where a list has no room it returns 18, and writes nothing.
-fn told_body(answer: JoinedBody, body: &mut [f64], values: &mut [usize]) -> usize
+fn told_body(answer: Result<Body, Refusal>, body: &mut [f64], values: &mut [usize]) -> usize
     ensures { BodyCall answer body.old values.old result body.new values.new }
 {
     if body.len() < BODY_NUMBERS {
@@ -46,9 +45,8 @@ fn told_body(answer: JoinedBody, body: &mut [f64], values: &mut [usize]) -> usiz
     if values.len() < 2 {
         return NO_FORM;
     }
-    let verdict = answer.verdict;
-    let found = answer.body;
-    joins::write_body(body, 0, found);
+    let verdict = refusals::verdict_in(&answer);
+    joins::write_body(body, 0, answer.unwrap_or(Body::ZERO));
     refusals::write_values(values, verdict);
     refusals::verdict_number(verdict)
 }
@@ -233,8 +231,8 @@ pub extern "C" fn delvouzh_closing_radius(
         return NO_FORM;
     }
     let found = tubes::closing_radius_m(body_radius_m, count);
-    let verdict = found.verdict;
-    radius[0] = found.radius_m;
+    let verdict = refusals::verdict_in(&found);
+    radius[0] = found.unwrap_or(0.0);
     refusals::write_values(values, verdict);
     refusals::verdict_number(verdict)
 }
@@ -248,9 +246,8 @@ pub extern "C" fn delvouzh_combine(bodies: &[f64], body: &mut [f64]) -> usize
         return NO_FORM;
     }
     let joined = joins::combine(bodies);
-    let verdict = joined.verdict;
-    let found = joined.body;
-    joins::write_body(body, 0, found);
+    let verdict = refusals::verdict_in(&joined);
+    joins::write_body(body, 0, joined.unwrap_or(Body::ZERO));
     refusals::verdict_number(verdict)
 }
 
@@ -335,8 +332,8 @@ pub extern "C" fn delvouzh_principal_moments(
         return NO_FORM;
     }
     let found = requests::tensor_moments(tensor);
-    let verdict = found.verdict;
-    let m = found.moments_kg_m2;
+    let verdict = refusals::verdict_in(&found);
+    let m = found.unwrap_or([0.0; 3]);
     write_three(moments, m[0], m[1], m[2]);
     refusals::write_values(values, verdict);
     refusals::verdict_number(verdict)

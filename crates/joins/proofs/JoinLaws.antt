@@ -18,10 +18,8 @@ use Rattle.bodies.specs.Vectors.{vector, divide_vector}
 use Rattle.bodies.specs.Tensors.{zero_tensor, add_tensors}
 use Rattle.bodies.specs.Bodies.{inertia_about_of}
 use Rattle.bodies.specs.Layout.{body_numbers}
-use Rattle.refusals.specs.Verdict.{Verdict}
-use Rattle.joins.specs.declared.JoinedBody.{JoinedBody}
 use Rattle.joins.specs.Flat.{body_at, listed}
-use Rattle.joins.specs.Joins.{in_order, no_sums, sums_of, add_body, centre_of, inertia_of, join_of, unless_refused, joined_of, combine_of}
+use Rattle.joins.specs.Joins.{in_order, no_sums, sums_of, add_body, centre_of, inertia_of, join_of, joined_of, combine_of}
 use Rattle.joins.proofs.InOrder.{no_sums_lem, sums_suc, inertia_suc}
 use Rattle.joins.proofs.Listed.{read_back, length_listed, read_back_lem}
 
@@ -63,11 +61,6 @@ module _ (f g : ℕ → Body) where
 
   pub join_read_back : (n : ℕ) → ((k : ℕ) → k < n → f k ≡ read_back (g k)) → join_of f n ≡ join_of g n
   join_read_back n back = join_alike n (λ k l. as_read_back (g k) (back k l))
-
--- `got` is what a check gave, which is `known`: the answer for that is the check's
-pub by_verdict_lem : (body : Body) {check got known : Verdict} {r : JoinedBody} → got ≡ check → got ≡ known → r ≡ unless_refused known body
-    → r ≡ unless_refused check body
-by_verdict_lem body p t a = a ∙ ap (λ (v : Verdict). unless_refused v body) (sym t ∙ p)
 
 -- the list of n bodies is joined as they are
 pub combine_listed : (f : ℕ → Body) (n : ℕ) → combine_of (listed f n) ≡ joined_of f n

@@ -1,6 +1,7 @@
 -- Bodies joined into one (document 01, "Body"; mass.rs, `combine`).
-use Rattle.std.specs.Prelude.{cond, List, ℕ, zero, suc, ◌/◌, ◌%◌, eqb, length, Float, Ok, Err}
+use Rattle.std.specs.Prelude.{cond, List, ℕ, zero, suc, ◌/◌, ◌%◌, eqb, length, Float, Result, Err}
 use Rattle.std.specs.Float.{nan}
+use Rattle.std.specs.Result.{result_unwrap_or}
 use Rattle.std.specs.Float.Ieee.{lt, ne}
 use Rattle.floats.specs.Operations.{◌⊕◌, bits}
 use Rattle.floats.specs.Constants.{one}
@@ -13,11 +14,9 @@ use Rattle.bodies.specs.Bodies.{empty_body, inertia_about_of}
 use Rattle.bodies.specs.Layout.{body_numbers}
 use Rattle.refusals.specs.declared.Refusal.{Refusal}
 use Rattle.refusals.specs.declared.Refusal.TheVariants.{Count}
-use Rattle.refusals.specs.Verdict.{Verdict}
-use Rattle.refusals.specs.Given.{IsAnswer}
+use Rattle.refusals.specs.Results.{unless_refused, IsResult}
 use Rattle.limits.specs.Limits.{count_check}
 use Rattle.joins.specs.Flat.{body_at}
-use Rattle.joins.specs.declared.JoinedBody.{JoinedBody}
 use Rattle.joins.specs.declared.Sums.{Sums}
 
 -- terms f 0 to f (n − 1) added to a start, in order
@@ -61,30 +60,23 @@ abbrev pub two_bodies : Body → Body → ℕ → Body
 two_bodies first second zero = first
 two_bodies first second (suc k) = second
 
-abbrev pub accepted_body : Body → JoinedBody
-accepted_body body = record { verdict = (Ok tt); body = body }
-
--- "Figures zero" with a refusal
-abbrev pub refused_body : Refusal → JoinedBody
-refused_body refusal = record { verdict = Err refusal; body = empty_body }
-
 -- a call's answer is the definition's, with the number and values of its verdict
-abbrev pub IsJoined : JoinedBody → JoinedBody → Type 0
-IsJoined r definition = IsAnswer (λ (j : JoinedBody). j.verdict) r definition
+abbrev pub IsJoined : Result Body Refusal → Result Body Refusal → Type 0
+IsJoined r definition = IsResult r definition
 
-abbrev pub unless_refused : Verdict → Body → JoinedBody
-unless_refused (Ok _) body = accepted_body body
-unless_refused (Err refusal) body = refused_body refusal
+-- the body whose numbers are written for an answer: "Figures zero" with a refusal
+abbrev pub body_told : Result Body Refusal → Body
+body_told joined = result_unwrap_or joined empty_body
 
 -- the first n bodies of f, joined, or 3: "count of .. bodies joined, not 1 to 32"
-abbrev pub joined_of : (ℕ → Body) → ℕ → JoinedBody
+abbrev pub joined_of : (ℕ → Body) → ℕ → Result Body Refusal
 joined_of f n = unless_refused (count_check n) (join_of f n)
 
 -- the bodies of a list of numbers, joined; a list that is no whole number of bodies is refused 3 too
-abbrev pub combine_of : List Float → JoinedBody
+abbrev pub combine_of : List Float → Result Body Refusal
 combine_of numbers =
     cond (eqb (length numbers % body_numbers) 0) (joined_of (body_at numbers) (length numbers / body_numbers))
-    (refused_body Count)
+    (Err Count)
 
 -- ---- what the steps do
 

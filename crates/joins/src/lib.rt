@@ -10,18 +10,11 @@ ghost use Rattle.std.specs.Prelude.{◌≡◌, ◌+◌, ◌*◌, ◌≤◌, leng
 ghost use Rattle.bodies.specs.Layout.{body_numbers};
 ghost use Rattle.joins.specs.Flat.{body_at, with_body};
 ghost use Rattle.joins.specs.Joins.{sums_of, no_sums, add_body, centre_of, at_centre, add_inertia, join_of, two_bodies};
-ghost use Rattle.joins.specs.Joins.{accepted_body, refused_body, IsJoined, combine_of};
+ghost use Rattle.joins.specs.Joins.{IsJoined, combine_of};
 ghost use Rattle.joins.specs.Lists.{join_list, add_each};
 
 use bodies::{BODY_NUMBERS, Body, Vector};
-use refusals::{Refusal, Verdict};
-
-// A body, as of one fin or of joined ones, with its verdict; with a refusal, the empty body.
-#[derive(Clone, Copy)]
-pub struct JoinedBody {
-    pub verdict: Verdict,
-    pub body: Body,
-}
+use refusals::Refusal;
 
 // What the centre is worked from: total mass, Σ mₖ cₖ, Σ cₖ and how many bodies there are.
 #[derive(Clone, Copy)]
@@ -32,34 +25,16 @@ pub struct Sums {
     pub count: f64,
 }
 
-pub fn accepted(body: Body) -> JoinedBody
-    ensures { result ≡ accepted_body body }
-{
-    let verdict = Ok(());
-    JoinedBody { verdict, body }
-}
-
-pub fn refused(refusal: Refusal) -> JoinedBody
-    ensures { result ≡ refused_body refusal }
-{
-    let verdict = Err(refusal);
-    let body = Body::ZERO;
-    JoinedBody { verdict, body }
-}
-
 // Joins one to 32 bodies by their numbers. Numbers of none or of more, or of no whole number of bodies, are refused 3.
-pub fn combine(numbers: &[f64]) -> JoinedBody
+pub fn combine(numbers: &[f64]) -> Result<Body, Refusal>
     ensures { IsJoined result (combine_of numbers.now) }
 {
     if numbers.len() % BODY_NUMBERS != 0 {
-        return refused(Refusal::Count);
+        return Err(Refusal::Count);
     }
     let count = numbers.len() / BODY_NUMBERS;
-    let verdict = limits::check_count(count);
-    match verdict {
-        Ok(()) => accepted(join_numbers(numbers, count)),
-        Err(refusal) => refused(refusal),
-    }
+    limits::check_count(count)?;
+    Ok(join_numbers(numbers, count))
 }
 
 // Joins bodies by their numbers, read where they lie: a list of structs would take longer to fill than to join.

@@ -22,7 +22,6 @@ use Rattle.fins.specs.declared.FinSet.{FinSet}
 use Rattle.floats.proofs.Bools.{and_false}
 use Rattle.fins.specs.Fins.{own_check, set_check, area_check}
 use Rattle.materials.specs.declared.Density.{Density}
-use Rattle.joins.specs.Joins.{refused_body}
 use Rattle.tubes.specs.declared.TubeFinSet.{TubeFinSet}
 use Rattle.tubes.specs.Tubes.{tube_check, tubes_of}
 use Rattle.tubes.specs.Closing.{closing_of}
@@ -155,7 +154,7 @@ with_tubes s n =
       density = s.density;
     }
 
-tubes_many : (set : TubeFinSet) (radius : Float) → 32 < set.count → tubes_of set radius ≡ refused_body Count
+tubes_many : (set : TubeFinSet) (radius : Float) → 32 < set.count → tubes_of set radius ≡ Err Count
 unfolding tube_check
 tubes_many set radius h = rw (too_many set.count h)
 

@@ -10,15 +10,13 @@ use Rattle.refusals.specs.Calls.{CallOf}
 use Rattle.planforms.specs.declared.Planform.{Planform}
 use Rattle.materials.specs.declared.Density.{Density}
 use Rattle.fins.specs.declared.FinSet.{FinSet}
+use Rattle.bodies.specs.declared.Body.{Body}
 use Rattle.bodies.specs.Layout.{body_numbers, numbers_of}
-use Rattle.joins.specs.declared.JoinedBody.{JoinedBody}
-use Rattle.tubes.specs.declared.ClosingRadius.{ClosingRadius}
 use Rattle.tubes.specs.Tubes.{tubes_of}
 use Rattle.tubes.specs.Closing.{closing_of}
 use Rattle.drill.specs.declared.Place.{Place}
 use Rattle.drill.specs.declared.Place.TheVariants.{Inside, Edge, Outside}
 use Rattle.drill.specs.Drill.{drill_of}
-use Rattle.moments.specs.declared.Moments.{Moments}
 use Rattle.texts.specs.Appended.{Appended}
 use Rattle.answers.specs.declared.Reply.{Reply}
 use Rattle.answers.specs.declared.Shape.{Shape}
@@ -93,17 +91,18 @@ area_reply a =
     (a.intervals ∷ a.samples ∷ []))
 
 -- the answer with a body: of points joined, of a ring, or of copies and parts
-abbrev pub body_reply : Shape → JoinedBody → Reply
-body_reply shape joined = unless_refused joined.verdict (reply shape (numbers_of joined.body) [])
+abbrev pub body_reply : Shape → Result Body Refusal → Reply
+body_reply shape (Ok body) = reply shape (numbers_of body) []
+body_reply shape (Err refusal) = refused_reply refusal
 
-abbrev pub closing_reply : ClosingRadius → Reply
-closing_reply c = unless_refused c.verdict (reply ClosingShape (c.radius_m ∷ []) [])
+abbrev pub closing_reply : Result Float Refusal → Reply
+closing_reply (Ok radius) = reply ClosingShape (radius ∷ []) []
+closing_reply (Err refusal) = refused_reply refusal
 
 -- the answer with principal moments, ascending
-abbrev pub moments_reply : Moments → Reply
-moments_reply m =
-    let moments = m.moments_kg_m2 in
-    unless_refused m.verdict (reply MomentsShape (at moments 0 ∷ at moments 1 ∷ at moments 2 ∷ []) [])
+abbrev pub moments_reply : Result (List Float) Refusal → Reply
+moments_reply (Ok moments) = reply MomentsShape (at moments 0 ∷ at moments 1 ∷ at moments 2 ∷ []) []
+moments_reply (Err refusal) = refused_reply refusal
 
 abbrev pub drill_reply : Result Place Refusal → Reply
 drill_reply (Ok (Inside nearest)) = reply InsideShape [] (nearest ∷ [])

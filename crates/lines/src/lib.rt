@@ -22,20 +22,17 @@ ghost use Rattle.lines.specs.Lines.{turn_effect, effect_of, line_effect};
 ghost use Rattle.lines.specs.Lines.{memory_in, lent_in, Serves, LeavesLent, Answers};
 
 use answers::{ANSWER_BYTES, Reply, Shape};
-use bodies::BODY_NUMBERS;
 use drill::Place;
+use bodies::{BODY_NUMBERS, Body};
 use engines::Turn;
 use figures::Figures;
 use fins::FinSet;
 use jobs::JobProgress;
-use joins::JoinedBody;
 use lent_engines::{ENGINE_COUNTS, ENGINE_NUMBERS};
-use moments::Moments;
 use planforms::Planform;
 use reading::Asked;
 use refusals::{Refusal, Verdict};
 use templates::LINE_FIGURES;
-use tubes::ClosingRadius;
 
 // Lengths of lines, in bytes. A line has no more figures than bytes, so a shorter line needs a smaller array for them,
 // which is cleared in less time: lines other than sets' mostly fit the first, most sets the second, and sets with a
@@ -133,36 +130,53 @@ fn area_reply(
 }
 
 // Returns the answer with a body: of points joined, of a ring, or of copies and parts.
-fn body_reply(shape: Shape, joined: JoinedBody) -> Reply
+fn body_reply(shape: Shape, joined: Result<Body, Refusal>) -> Reply
     ensures { result ≡ body_reply shape joined }
 {
-    let verdict = joined.verdict;
-    let body = joined.body;
-    let figures = body.numbers();
-    unless_refused(verdict, shape, figures, [0; 4])
+    match joined {
+        Ok(body) => Reply {
+            shape,
+            figures: body.numbers(),
+            counts: [0; 4],
+        },
+        Err(refusal) => refused_reply(refusal),
+    }
 }
 
-fn closing_reply(found: ClosingRadius) -> Reply
+fn closing_reply(found: Result<f64, Refusal>) -> Reply
     ensures { result ≡ closing_reply found }
 {
-    let verdict = found.verdict;
-    let shape = Shape::Closing;
-    let mut figures = [0.0; 10];
-    figures[0] = found.radius_m;
-    unless_refused(verdict, shape, figures, [0; 4])
+    match found {
+        Ok(radius_m) => {
+            let mut figures = [0.0; 10];
+            figures[0] = radius_m;
+            Reply {
+                shape: Shape::Closing,
+                figures,
+                counts: [0; 4],
+            }
+        }
+        Err(refusal) => refused_reply(refusal),
+    }
 }
 
-fn moments_reply(m: Moments) -> Reply
-    ensures { result ≡ moments_reply m }
+fn moments_reply(found: Result<[f64; 3], Refusal>) -> Reply
+    ensures { result ≡ moments_reply found }
 {
-    let verdict = m.verdict;
-    let shape = Shape::Moments;
-    let moments = m.moments_kg_m2;
-    let mut figures = [0.0; 10];
-    figures[0] = moments[0];
-    figures[1] = moments[1];
-    figures[2] = moments[2];
-    unless_refused(verdict, shape, figures, [0; 4])
+    match found {
+        Ok(moments_kg_m2) => {
+            let mut figures = [0.0; 10];
+            figures[0] = moments_kg_m2[0];
+            figures[1] = moments_kg_m2[1];
+            figures[2] = moments_kg_m2[2];
+            Reply {
+                shape: Shape::Moments,
+                figures,
+                counts: [0; 4],
+            }
+        }
+        Err(refusal) => refused_reply(refusal),
+    }
 }
 
 // Returns an answer of one count.

@@ -1,6 +1,6 @@
 -- The Rust's first step takes the means of opposite entries. Of six numbers that 17a lets pass it changes nothing: half
 -- the sum of a number and itself is that number, bit for bit. Assumes nothing.
-use mathlib.Core.Path.{◌≡◌, refl, sym, ap, ◌∙◌}
+use mathlib.Core.Path.{◌≡◌, refl, sym}
 use mathlib.Core.Bool.{Bool, true, false, not}
 use Prim.Native.Nat.{ℕ, ◌<◌}
 use native.Mathlib.Omega.{arith}

@@ -1,6 +1,7 @@
 -- Principal moments (document 01, "Body"; mass.rs, `symmetric_eigenvalues`).
-use Rattle.std.specs.Prelude.{Bool, not, cond, ◌&&◌, List, [], ◌∷◌, ℕ, zero, suc, ◌+◌, ◌*◌, set, Float, Ok, Err}
+use Rattle.std.specs.Prelude.{Bool, not, cond, ◌&&◌, List, [], ◌∷◌, ℕ, zero, suc, ◌+◌, ◌*◌, set, Float, Result, Ok, Err}
 use Rattle.std.specs.Float.Ieee.{lt, le, eq}
+use Rattle.std.specs.Result.{result_unwrap_or}
 use Rattle.floats.specs.Operations.{◌⊕◌, ◌⊖◌, ◌⊗◌, ◌⊘◌, bits, every}
 use Rattle.floats.specs.Constants.{one, two}
 use Rattle.floats.specs.Floats.{is_finite, abs_of}
@@ -10,10 +11,10 @@ use Rattle.bodies.specs.declared.Tensor.{Tensor}
 use Rattle.bodies.specs.Matrices.{place_at, entry}
 use Rattle.bodies.specs.Tensors.{number_at, as_matrix}
 use Rattle.bodies.specs.Layout.{tensor_numbers}
+use Rattle.refusals.specs.declared.Refusal.{Refusal}
 use Rattle.refusals.specs.declared.Refusal.TheVariants.{Tensor as TensorRefused}
 use Rattle.refusals.specs.declared.TensorFault.TheVariants.{Entry}
-use Rattle.refusals.specs.Given.{IsAnswer}
-use Rattle.moments.specs.declared.Moments.{Moments}
+use Rattle.refusals.specs.Results.{IsResult}
 use Rattle.moments.specs.declared.Rotation.{Rotation}
 
 -- ---- refusal 17a
@@ -99,13 +100,16 @@ unfoldable pub eigenvalues_of : Tensor → List Float
 eigenvalues_of t = let a = sweeps 32 (as_matrix t) in ascending (entry a 0 0 ∷ entry a 1 1 ∷ entry a 2 2 ∷ [])
 
 -- the answer to an entry that does not fit: "17a first"
-abbrev pub refused_entry : Moments
-refused_entry = record { verdict = Err (TensorRefused Entry); moments_kg_m2 = bits 0 ∷ bits 0 ∷ bits 0 ∷ [] }
+abbrev pub refused_entry : Result (List Float) Refusal
+refused_entry = Err (TensorRefused Entry)
 
 -- a call's answer is the definition's, with the number and values of its verdict
-abbrev pub IsMoments : Moments → Moments → Type 0
-IsMoments r definition = IsAnswer (λ (m : Moments). m.verdict) r definition
+abbrev pub IsMoments : Result (List Float) Refusal → Result (List Float) Refusal → Type 0
+IsMoments r definition = IsResult r definition
 
-abbrev pub principal_moments_of : Tensor → Moments
-principal_moments_of t =
-    cond (entries_fit t) (record { verdict = (Ok tt); moments_kg_m2 = eigenvalues_of t }) refused_entry
+-- the moments that are written for an answer: "Figures zero" with a refusal
+abbrev pub moments_told : Result (List Float) Refusal → List Float
+moments_told moments = result_unwrap_or moments (bits 0 ∷ bits 0 ∷ bits 0 ∷ [])
+
+abbrev pub principal_moments_of : Tensor → Result (List Float) Refusal
+principal_moments_of t = cond (entries_fit t) (Ok (eigenvalues_of t)) refused_entry

@@ -9,17 +9,10 @@
 ghost use Rattle.std.specs.Prelude.{◌≡◌, [], ◌∷◌, ◌<◌};
 ghost use Rattle.moments.specs.Moments.{entry_fits, entries_fit, tangent_of, rotation_of, turn_pair, turn_columns};
 ghost use Rattle.moments.specs.Moments.{turn_rows, rotate, sweep, off_diagonal, sweeps, insert_moment, ascending};
-ghost use Rattle.moments.specs.Moments.{eigenvalues_of, refused_entry, IsMoments, principal_moments_of};
+ghost use Rattle.moments.specs.Moments.{eigenvalues_of, IsMoments, principal_moments_of};
 
 use bodies::{Matrix, Tensor};
-use refusals::{Refusal, TensorFault, Verdict};
-
-// The principal moments, ascending, or zeros with a refusal.
-#[derive(Clone, Copy)]
-pub struct Moments {
-    pub verdict: Verdict,
-    pub moments_kg_m2: [f64; 3],
-}
+use refusals::{Refusal, TensorFault};
 
 // The cosine and the sine of a rotation's angle.
 #[derive(Clone, Copy)]
@@ -32,25 +25,15 @@ const LARGEST_ENTRY: f64 = 3.273390607896142e150;
 
 const SWEEPS: usize = 32;
 
-// Returns the principal moments of a tensor. One with an entry that is not finite, or over 2^500 in magnitude, is
-// refused with 17a.
-pub fn principal_moments(tensor: Tensor) -> Moments
+// Returns the principal moments of a tensor in kg·m², ascending. One with an entry that is not finite, or over 2^500 in
+// magnitude, is refused with 17a.
+pub fn principal_moments(tensor: Tensor) -> Result<[f64; 3], Refusal>
     ensures { IsMoments result (principal_moments_of tensor) }
 {
     if entries_fit(tensor) {
-        let verdict = Ok(());
-        let moments_kg_m2 = eigenvalues(tensor);
-        return Moments {
-            verdict,
-            moments_kg_m2,
-        };
+        return Ok(eigenvalues(tensor));
     }
-    let verdict = Err(Refusal::Tensor(TensorFault::Entry));
-    let moments_kg_m2 = [0.0, 0.0, 0.0];
-    Moments {
-        verdict,
-        moments_kg_m2,
-    }
+    Err(Refusal::Tensor(TensorFault::Entry))
 }
 
 // Tells whether every entry is finite and at most 2^500 in magnitude.

@@ -9,8 +9,9 @@ use Rattle.floats.specs.Operations.{◌⊕◌, bits}
 use Rattle.bodies.specs.declared.Body.{Body}
 use Rattle.bodies.specs.Bodies.{rotated_of}
 use Rattle.rotations.specs.Rotations.{rolled_of}
-use Rattle.joins.specs.declared.JoinedBody.{JoinedBody}
-use Rattle.joins.specs.Joins.{in_order, sums_of, join_of, accepted_body, joined_of}
+use Rattle.std.specs.Prelude.{Result, Ok}
+use Rattle.refusals.specs.declared.Refusal.{Refusal}
+use Rattle.joins.specs.Joins.{in_order, sums_of, join_of, joined_of}
 use Rattle.placements.specs.declared.Placement.{Placement}
 use Rattle.placements.specs.Places.{is_here}
 use Rattle.placements.specs.Copies.{turned_copy, copy_at, placed_of}
@@ -20,12 +21,12 @@ module _ (b : Body) (places : ℕ → Placement) (n : ℕ) {count : ℕ} {same :
   test : (eqb count 1 && same) ≡ (eqb n 1 && is_here (places 0))
   test = rw (p, e, q)
 
-  pub at_here : {r : JoinedBody} → (eqb count 1 && same) ≡ true → r ≡ accepted_body b → r ≡ accepted_body (placed_of b places n)
+  pub at_here : {r : Result Body Refusal} → (eqb count 1 && same) ≡ true → r ≡ Ok b → r ≡ Ok (placed_of b places n)
   unfolding placed_of
   at_here t k = k ∙ rw (sym test ∙ t)
 
-  pub elsewhere : {r : JoinedBody} → (eqb count 1 && same) ≡ false → 1 ≤ n → n ≤ 32 → r ≡ joined_of (λ k. copy_at b (places k)) count
-      → r ≡ accepted_body (placed_of b places n)
+  pub elsewhere : {r : Result Body Refusal} → (eqb count 1 && same) ≡ false → 1 ≤ n → n ≤ 32
+      → r ≡ joined_of (λ k. copy_at b (places k)) count → r ≡ Ok (placed_of b places n)
   unfolding placed_of
   elsewhere t l h k = k ∙ rw (p, sym test ∙ t, le-leb 1 n l, le-leb n 32 h)
 

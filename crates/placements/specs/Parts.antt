@@ -1,9 +1,11 @@
 -- A part moved inside a body, or taken off it (document 02, Paper 13; mass.rs, `with_part_moved` and `without_part`).
-use Rattle.std.specs.Prelude.{List, [], ◌∷◌}
+use Rattle.std.specs.Prelude.{List, [], ◌∷◌, Result}
 use Rattle.std.specs.Float.Ieee.{le, eq}
 use Rattle.floats.specs.Operations.{◌⊖◌, ◌⊘◌, bits}
 use Rattle.refusals.specs.declared.Refusal.TheVariants.{NotHeavier}
+use Rattle.refusals.specs.declared.Refusal.{Refusal}
 use Rattle.refusals.specs.Verdict.{Verdict}
+use Rattle.refusals.specs.Results.{unless_refused}
 use Rattle.refusals.specs.Order.{refuse_when, first_of}
 use Rattle.limits.specs.Limits.{offset_field, length_check}
 use Rattle.bodies.specs.declared.Body.{Body}
@@ -11,8 +13,6 @@ use Rattle.bodies.specs.declared.Vector.{Vector}
 use Rattle.bodies.specs.Vectors.{add_vectors, subtract_vectors, scale_vector, divide_vector}
 use Rattle.bodies.specs.Tensors.{add_tensors, subtract_tensors, scale_tensor, offset_tensor_of}
 use Rattle.bodies.specs.Bodies.{inertia_about_of}
-use Rattle.joins.specs.declared.JoinedBody.{JoinedBody}
-use Rattle.joins.specs.Joins.{unless_refused}
 use Rattle.body_check.specs.BodyCheck.{check_of}
 
 -- ---- a part moved by an offset: cg' = cg + δ (m / M)
@@ -50,7 +50,7 @@ moved_check whole part offset =
     ∷ refuse_when (eq whole.mass_kg (bits 0)) NotHeavier
     ∷ [])
 
-unfoldable pub moved_of : Body → Body → Vector → JoinedBody
+unfoldable pub moved_of : Body → Body → Vector → Result Body Refusal
 moved_of whole part offset = unless_refused (moved_check whole part offset) (part_moved_of whole part offset)
 
 -- ---- a part taken off: M' = M − m, cg' = (M cg − m c) / M', I' = I_{cg'} − the part's about cg'
@@ -76,5 +76,5 @@ unfoldable pub without_check : Body → Body → Verdict
 without_check whole part =
     first_of (check_of whole ∷ check_of part ∷ refuse_when (le whole.mass_kg part.mass_kg) NotHeavier ∷ [])
 
-unfoldable pub without_of : Body → Body → JoinedBody
+unfoldable pub without_of : Body → Body → Result Body Refusal
 without_of whole part = unless_refused (without_check whole part) (part_off_of whole part)

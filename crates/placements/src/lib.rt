@@ -7,10 +7,10 @@
 // up to rounding (docs/DIFFERENCES.md).
 #![tactic(auto)]
 
-ghost use Rattle.std.specs.Prelude.{true, false, ◌≡◌, ◌*◌, ◌≤◌, ◌<◌, length};
+ghost use Rattle.std.specs.Prelude.{true, false, ◌≡◌, ◌*◌, ◌≤◌, ◌<◌, length, Ok};
 ghost use Rattle.bodies.specs.Layout.{body_numbers};
 ghost use Rattle.joins.specs.Flat.{with_bodies};
-ghost use Rattle.joins.specs.Joins.{accepted_body, joined_of, IsJoined};
+ghost use Rattle.joins.specs.Joins.{joined_of, IsJoined};
 ghost use Rattle.placements.specs.Places.{is_here, place_count, is_whole_list, place_at, list_check, place_check};
 ghost use Rattle.placements.specs.Places.{places_check};
 ghost use Rattle.placements.specs.Copies.{turned_copy, copy_at, placed_of, copies_check, copies_of, copied_of};
@@ -20,7 +20,6 @@ ghost use Rattle.placements.specs.Parts.{without_of};
 ghost use Rattle.refusals.specs.Order.{first_of};
 
 use bodies::{BODY_NUMBERS, Body, Vector, offset_tensor};
-use joins::JoinedBody;
 use limits::check_length;
 use refusals::{Refusal, Verdict};
 
@@ -179,7 +178,7 @@ fn write_copies(bodies: &mut [f64], body: Body, places: &[f64], rolled: bool, co
     }
 }
 
-fn joined_copies(body: Body, places: &[f64], rolled: bool, count: usize) -> JoinedBody
+fn joined_copies(body: Body, places: &[f64], rolled: bool, count: usize) -> Result<Body, Refusal>
     requires { (count ≤ 32) × (count ≤ place_count rolled places.now) }
     ensures { result ≡ joined_of (λ k. copy_at body (place_at rolled places.now k)) count }
 {
@@ -190,38 +189,36 @@ fn joined_copies(body: Body, places: &[f64], rolled: bool, count: usize) -> Join
 }
 
 // Returns the copies joined. A single one that neither moves nor turns is the body itself.
-fn placed_copies(body: Body, places: &[f64], rolled: bool) -> JoinedBody
+fn placed_copies(body: Body, places: &[f64], rolled: bool) -> Result<Body, Refusal>
     requires { (1 ≤ place_count rolled places.now) × (place_count rolled places.now ≤ 32) }
-    ensures { result ≡ accepted_body
+    ensures { result ≡ Ok
         (placed_of body (place_at rolled places.now) (place_count rolled places.now)) }
 {
     let count = count_places(places, rolled);
     let first = place_at(places, rolled, 0);
     if (count == 1) & first.is_here() {
-        return joins::accepted(body);
+        return Ok(body);
     }
     joined_copies(body, places, rolled, count)
 }
 
-fn copies(body: Body, places: &[f64], rolled: bool) -> JoinedBody
+#[tactic(auto, unfolding(crate::specs::Copies::copies_of))]
+fn copies(body: Body, places: &[f64], rolled: bool) -> Result<Body, Refusal>
     ensures { IsJoined result (copies_of rolled body places.now) }
 {
-    let verdict = check_copies(body, places, rolled);
-    match verdict {
-        Ok(()) => placed_copies(body, places, rolled),
-        Err(refusal) => joins::refused(refusal),
-    }
+    check_copies(body, places, rolled)?;
+    placed_copies(body, places, rolled)
 }
 
 // Returns copies of a body joined, one moved across the axis by each x and y of a list.
-pub fn copied(body: Body, offsets_m: &[f64]) -> JoinedBody
+pub fn copied(body: Body, offsets_m: &[f64]) -> Result<Body, Refusal>
     ensures { IsJoined result (copied_of body offsets_m.now) }
 {
     copies(body, offsets_m, false)
 }
 
 // Returns copies of a body joined, one at each place of a list: x, y and roll.
-pub fn placed(body: Body, places: &[f64]) -> JoinedBody
+pub fn placed(body: Body, places: &[f64]) -> Result<Body, Refusal>
     ensures { IsJoined result (placed_at_of body places.now) }
 {
     copies(body, places, true)
@@ -264,14 +261,12 @@ fn check_moved(whole: Body, part: Body, offset_m: Vector) -> Verdict
 }
 
 // Returns the whole with one of its parts moved by an offset inside it.
-pub fn with_part_moved(whole: Body, part: Body, offset_m: Vector) -> JoinedBody
+#[tactic(auto, unfolding(crate::specs::Parts::moved_of))]
+pub fn with_part_moved(whole: Body, part: Body, offset_m: Vector) -> Result<Body, Refusal>
     ensures { IsJoined result (moved_of whole part offset_m) }
 {
-    let verdict = check_moved(whole, part, offset_m);
-    match verdict {
-        Ok(()) => joins::accepted(part_moved(whole, part, offset_m)),
-        Err(refusal) => joins::refused(refusal),
-    }
+    check_moved(whole, part, offset_m)?;
+    Ok(part_moved(whole, part, offset_m))
 }
 
 fn part_off(whole: Body, part: Body) -> Body
@@ -300,12 +295,10 @@ fn check_without(whole: Body, part: Body) -> Verdict
 }
 
 // Returns the whole with one of its parts taken off.
-pub fn without_part(whole: Body, part: Body) -> JoinedBody
+#[tactic(auto, unfolding(crate::specs::Parts::without_of))]
+pub fn without_part(whole: Body, part: Body) -> Result<Body, Refusal>
     ensures { IsJoined result (without_of whole part) }
 {
-    let verdict = check_without(whole, part);
-    match verdict {
-        Ok(()) => joins::accepted(part_off(whole, part)),
-        Err(refusal) => joins::refused(refusal),
-    }
+    check_without(whole, part)?;
+    Ok(part_off(whole, part))
 }

@@ -10,6 +10,7 @@ ghost use Rattle.refusals.specs.Refusals.{number_of, case_of, values_of, in_two_
 ghost use Rattle.refusals.specs.Rows.{IsRow};
 ghost use Rattle.refusals.specs.Numbered.{fault_from, refusal_from, number_in, values_in, verdict_from};
 ghost use Rattle.refusals.specs.Lent.{with_values, with_count, with_counts};
+ghost use Rattle.refusals.specs.Results.{verdict_in};
 
 // What is wrong with a tensor: the cases a, b, d and e of refusal 17, in their order. Six numbers cannot be asymmetric,
 // which was c.
@@ -252,4 +253,14 @@ pub fn write_counts(counts: &mut [usize], verdict: Verdict, intervals: usize, sa
     counts[1] = found[1];
     counts[2] = intervals;
     counts[3] = samples;
+}
+
+// Returns the verdict of an answer: accepted with a value, or its refusal.
+pub fn verdict_in<T>(answer: &Result<T, Refusal>) -> Verdict
+    ensures { result ≡ verdict_in answer.now }
+{
+    match answer {
+        Ok(_) => Ok(()),
+        Err(refusal) => Err(*refusal),
+    }
 }

@@ -18,9 +18,7 @@ use Rattle.bodies.specs.declared.Body.{Body}
 use Rattle.bodies.specs.Vectors.{vector}
 use Rattle.bodies.specs.Tensors.{zero_tensor, tensor}
 use Rattle.bodies.specs.Layout.{tensor_numbers, body_numbers, body_of}
-use Rattle.joins.specs.declared.JoinedBody.{JoinedBody}
-use Rattle.joins.specs.Joins.{joined_of, refused_body}
-use Rattle.moments.specs.declared.Moments.{Moments}
+use Rattle.joins.specs.Joins.{joined_of}
 use Rattle.moments.specs.Moments.{principal_moments_of}
 use Rattle.body_check.specs.BodyCheck.{check_of}
 use Rattle.placements.specs.Copies.{copied_of, placed_at_of}
@@ -56,7 +54,7 @@ numbered_drill None points x height = Err NoForm
 
 -- ---- a ring of tubes (document 02, Paper 3): of length, outer radius, wall, base angle, body radius, density
 
-abbrev pub ring_of_known : ℕ → Option Density → List Float → JoinedBody
+abbrev pub ring_of_known : ℕ → Option Density → List Float → Result Body Refusal
 ring_of_known count (Some density) figures =
     tubes_of
     (record {
@@ -68,12 +66,12 @@ ring_of_known count (Some density) figures =
       density = density;
     })
     (at figures 4)
-ring_of_known count None figures = refused_body NoForm
+ring_of_known count None figures = Err NoForm
 
-unfoldable pub ring_by : ℕ → ℕ → List Float → JoinedBody
+unfoldable pub ring_by : ℕ → ℕ → List Float → Result Body Refusal
 ring_by count density figures =
     cond (eqb (length figures) 6) (ring_of_known count (numbered_density density (at figures 5)) figures)
-    (refused_body NoForm)
+    (Err NoForm)
 
 -- ---- points joined
 
@@ -87,17 +85,14 @@ point_body_at figures k =
     }
 
 -- the points of a line joined: "none, or more, gives 3"
-unfoldable pub joined_points_of : List Float → JoinedBody
+unfoldable pub joined_points_of : List Float → Result Body Refusal
 joined_points_of figures = joined_of (point_body_at figures) (length figures / 4)
 
 -- ---- principal moments: of a tensor's numbers
 
-abbrev pub no_moments : Moments
-no_moments = record { verdict = Err NoForm; moments_kg_m2 = bits 0 ∷ bits 0 ∷ bits 0 ∷ [] }
-
-unfoldable pub tensor_moments : List Float → Moments
+unfoldable pub tensor_moments : List Float → Result (List Float) Refusal
 tensor_moments numbers =
-    cond (eqb (length numbers) tensor_numbers) (principal_moments_of (tensor (at numbers))) no_moments
+    cond (eqb (length numbers) tensor_numbers) (principal_moments_of (tensor (at numbers))) (Err NoForm)
 
 -- ---- the body check: of a body's numbers
 
@@ -107,22 +102,22 @@ body_verdict numbers = cond (eqb (length numbers) body_numbers) (check_of (body_
 -- ---- copies of a body, and a part moved or taken off (document 02, Paper 13): of bodies' numbers
 
 -- what f gives of the body that numbers make up: another count of numbers than a body's is no form
-abbrev pub of_body : List Float → (Body → JoinedBody) → JoinedBody
-of_body numbers f = cond (eqb (length numbers) body_numbers) (f (body_of (at numbers))) (refused_body NoForm)
+abbrev pub of_body : List Float → (Body → Result Body Refusal) → Result Body Refusal
+of_body numbers f = cond (eqb (length numbers) body_numbers) (f (body_of (at numbers))) (Err NoForm)
 
-unfoldable pub copied_by : List Float → List Float → JoinedBody
+unfoldable pub copied_by : List Float → List Float → Result Body Refusal
 copied_by body offsets = of_body body (λ b. copied_of b offsets)
 
-unfoldable pub placed_by : List Float → List Float → JoinedBody
+unfoldable pub placed_by : List Float → List Float → Result Body Refusal
 placed_by body places = of_body body (λ b. placed_at_of b places)
 
 -- a part moved by an offset of x, y and z
-unfoldable pub moved_by : List Float → List Float → List Float → JoinedBody
+unfoldable pub moved_by : List Float → List Float → List Float → Result Body Refusal
 moved_by whole part offset =
     of_body whole
     (λ w. of_body part
     (λ p. cond (eqb (length offset) 3) (moved_of w p (vector (at offset 0) (at offset 1) (at offset 2)))
-    (refused_body NoForm)))
+    (Err NoForm)))
 
-unfoldable pub without_by : List Float → List Float → JoinedBody
+unfoldable pub without_by : List Float → List Float → Result Body Refusal
 without_by whole part = of_body whole (λ w. of_body part (λ p. without_of w p))

@@ -18,8 +18,6 @@ use bodies::{BODY_NUMBERS, Body, TENSOR_NUMBERS, Vector};
 use drill::Place;
 use figures::{Area, Figures};
 use fins::FinSet;
-use joins::JoinedBody;
-use moments::Moments;
 use planforms::Planform;
 use refusals::{Refusal, Verdict};
 use tubes::TubeFinSet;
@@ -124,11 +122,11 @@ pub fn drilled(
 
 // Returns a ring of tubes by six numbers: length, outer radius, wall, base angle, body radius and density. Any other
 // count, or an unknown density, is refused with 18.
-pub fn ring_figures(count: usize, density: usize, numbers: &[f64]) -> JoinedBody
+pub fn ring_figures(count: usize, density: usize, numbers: &[f64]) -> Result<Body, Refusal>
     ensures { result ≡ ring_by count density numbers.now }
 {
     if numbers.len() != 6 {
-        return joins::refused(Refusal::NoForm);
+        return Err(Refusal::NoForm);
     }
     let found = materials::numbered_density(density, numbers[5]);
     match found {
@@ -143,21 +141,16 @@ pub fn ring_figures(count: usize, density: usize, numbers: &[f64]) -> JoinedBody
             },
             numbers[4],
         ),
-        None => joins::refused(Refusal::NoForm),
+        None => Err(Refusal::NoForm),
     }
 }
 
 // Returns the principal moments of a tensor's numbers; any other count of them is refused with 18.
-pub fn tensor_moments(numbers: &[f64]) -> Moments
+pub fn tensor_moments(numbers: &[f64]) -> Result<[f64; 3], Refusal>
     ensures { result ≡ tensor_moments numbers.now }
 {
     if numbers.len() != TENSOR_NUMBERS {
-        let verdict = Err(Refusal::NoForm);
-        let moments_kg_m2 = [0.0, 0.0, 0.0];
-        return Moments {
-            verdict,
-            moments_kg_m2,
-        };
+        return Err(Refusal::NoForm);
     }
     moments::principal_moments(bodies::tensor_of(numbers))
 }
@@ -174,38 +167,38 @@ pub fn body_verdict(numbers: &[f64]) -> Verdict
 
 // Returns copies of a body joined, each moved by the x and y of an offset. Any other count of the body's numbers is
 // refused with 18.
-pub fn copied_by(body: &[f64], offsets: &[f64]) -> JoinedBody
+pub fn copied_by(body: &[f64], offsets: &[f64]) -> Result<Body, Refusal>
     ensures { result ≡ copied_by body.now offsets.now }
 {
     if body.len() != BODY_NUMBERS {
-        return joins::refused(Refusal::NoForm);
+        return Err(Refusal::NoForm);
     }
     placements::copied(bodies::body_of(body), offsets)
 }
 
 // Returns copies of a body joined, each at the x, y and roll of a place. Any other count of the body's numbers is
 // refused with 18.
-pub fn placed_by(body: &[f64], places: &[f64]) -> JoinedBody
+pub fn placed_by(body: &[f64], places: &[f64]) -> Result<Body, Refusal>
     ensures { result ≡ placed_by body.now places.now }
 {
     if body.len() != BODY_NUMBERS {
-        return joins::refused(Refusal::NoForm);
+        return Err(Refusal::NoForm);
     }
     placements::placed(bodies::body_of(body), places)
 }
 
 // Returns a body with a part moved by an offset of three numbers. Any other count of numbers is refused with 18.
-pub fn moved_by(whole: &[f64], part: &[f64], offset: &[f64]) -> JoinedBody
+pub fn moved_by(whole: &[f64], part: &[f64], offset: &[f64]) -> Result<Body, Refusal>
     ensures { result ≡ moved_by whole.now part.now offset.now }
 {
     if whole.len() != BODY_NUMBERS {
-        return joins::refused(Refusal::NoForm);
+        return Err(Refusal::NoForm);
     }
     if part.len() != BODY_NUMBERS {
-        return joins::refused(Refusal::NoForm);
+        return Err(Refusal::NoForm);
     }
     if offset.len() != 3 {
-        return joins::refused(Refusal::NoForm);
+        return Err(Refusal::NoForm);
     }
     let offset_m = Vector {
         x: offset[0],
@@ -216,14 +209,14 @@ pub fn moved_by(whole: &[f64], part: &[f64], offset: &[f64]) -> JoinedBody
 }
 
 // Returns a body with a part taken off. Any other count of numbers is refused with 18.
-pub fn without_by(whole: &[f64], part: &[f64]) -> JoinedBody
+pub fn without_by(whole: &[f64], part: &[f64]) -> Result<Body, Refusal>
     ensures { result ≡ without_by whole.now part.now }
 {
     if whole.len() != BODY_NUMBERS {
-        return joins::refused(Refusal::NoForm);
+        return Err(Refusal::NoForm);
     }
     if part.len() != BODY_NUMBERS {
-        return joins::refused(Refusal::NoForm);
+        return Err(Refusal::NoForm);
     }
     placements::without_part(bodies::body_of(whole), bodies::body_of(part))
 }
@@ -258,14 +251,12 @@ fn write_points(bodies: &mut [f64], values: &[f64], count: usize)
 }
 
 // Returns the points of a line joined; none, or more than 32, are refused with 3.
-pub fn join_points(values: &[f64]) -> JoinedBody
+pub fn join_points(values: &[f64]) -> Result<Body, Refusal>
     ensures { result ≡ joined_points_of values.now }
 {
     let count = values.len() / 4;
     if 32 < count {
-        let verdict = Err(Refusal::Count);
-        let body = Body::ZERO;
-        return JoinedBody { verdict, body };
+        return Err(Refusal::Count);
     }
     let mut bodies = [0.0; POINTS_NUMBERS];
     write_points(&mut bodies, values, count);

@@ -15,7 +15,8 @@ use Rattle.bodies.specs.Bodies.{inertia_about_of, translated_of, rotated_of, poi
 use Rattle.bodies.specs.Layout.{body_of, numbers_of}
 use Rattle.rotations.specs.declared.Quaternion.{Quaternion}
 use Rattle.rotations.specs.Rotations.{about_x, about_z, matrix_of}
-use Rattle.joins.specs.Joins.{in_order, sums_of, inertia_of, join_of, two_bodies, combine_of}
+use Rattle.refusals.specs.Results.{verdict_in}
+use Rattle.joins.specs.Joins.{in_order, sums_of, inertia_of, join_of, two_bodies, body_told, combine_of}
 use Rattle.joins.specs.Lists.{join_list}
 use Rattle.rings.specs.Rings.{angle_of, joined_copies}
 use Rattle.test_definitions.specs.Rows.{is, are, refused}
@@ -146,10 +147,10 @@ each_of_a_list = is (join_list (on_axis one one ∷ on_axis one three ∷ [])).c
 -- "1 to 32", of whole bodies: 33 are refused, one of eleven numbers, and none; a refused join has a body of zeros
 abbrev pub joins_counted : Bool
 joins_counted =
-    refused 3 [] (combine_of (tabulate 330 (λ i. bits one))).verdict
-    && refused 3 [] (combine_of (tabulate 11 (λ i. bits one))).verdict
-    && refused 3 [] (combine_of []).verdict
-    && is (combine_of (tabulate 330 (λ i. bits one))).body.mass_kg 0
+    refused 3 [] (verdict_in (combine_of (tabulate 330 (λ i. bits one))))
+    && refused 3 [] (verdict_in (combine_of (tabulate 11 (λ i. bits one))))
+    && refused 3 [] (verdict_in (combine_of []))
+    && is (body_told (combine_of (tabulate 330 (λ i. bits one)))).mass_kg 0
 
 -- a body is ten numbers, the last one yz
 abbrev pub ten_numbers : Bool

@@ -34,7 +34,7 @@ use Rattle.bodies.specs.declared.Tensor.{Tensor}
 use Rattle.bodies.specs.Vectors.{vector}
 use Rattle.bodies.specs.Tensors.{diagonal}
 use Rattle.moments.specs.Moments.{rotation_of, rotate, sweep, sweeps, insert_moment, insert_all, entries_fit, eigenvalues_of}
-use Rattle.moments.specs.Moments.{principal_moments_of}
+use Rattle.moments.specs.Moments.{moments_told, principal_moments_of}
 use Rattle.root.specs.Root.{near_root, root_of}
 use Rattle.body_check.specs.BodyCheck.{largest_magnitude, check_tensor, check_of}
 use Rattle.test_definitions.specs.Rows.{is, are, accepted, refused}
@@ -208,7 +208,7 @@ abbrev pub entries_refused : Bool
 entries_refused =
     entries_fit (last_entry 0x5f30_0000_0000_0000)
     && not (entries_fit (last_entry 0x5f30_0000_0000_0001))
-    && are (principal_moments_of (last_entry infinity)).moments_kg_m2 (0 ∷ 0 ∷ 0 ∷ [])
+    && are (moments_told (principal_moments_of (last_entry infinity))) (0 ∷ 0 ∷ 0 ∷ [])
 
 -- of the two roots for the tangent the smaller one is taken, where τ is −1/2
 abbrev pub smaller_root : Bool

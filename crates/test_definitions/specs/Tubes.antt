@@ -6,12 +6,13 @@ use Rattle.floats.specs.Operations.{bits}
 use Rattle.floats.specs.Floats.{abs_of}
 use Rattle.trig.specs.Trig.{m_of, sin_cos_of}
 use Rattle.refusals.specs.Order.{first_refusal, first_from}
+use Rattle.refusals.specs.Results.{verdict_in}
 use Rattle.limits.specs.Limits.{length_within, length_check, angle_check}
 use Rattle.materials.specs.declared.Density.TheVariants.{Bulk, Surface}
 use Rattle.materials.specs.Materials.{density_check}
 use Rattle.tubes.specs.declared.TubeFinSet.{TubeFinSet}
 use Rattle.tubes.specs.Tubes.{tube_at, tube_check}
-use Rattle.tubes.specs.Closing.{closing_value, closing_of}
+use Rattle.tubes.specs.Closing.{closing_value, radius_told, closing_of}
 use Rattle.test_definitions.specs.Rows.{is, accepted, refused}
 use Rattle.test_definitions.specs.Checks.{d01, one, two, large, not_number, minus, unless_mended, refused_from}
 
@@ -54,15 +55,15 @@ wall_of_zero =
 -- the checks of the radius that closes a ring: 3 for the count, then 4 for the body's radius
 abbrev pub closing_order : Bool
 closing_order =
-    refused 3 [] (closing_of (bits (minus d01)) 33).verdict
-    && refused 4 (11 ∷ []) (closing_of (bits (minus d01)) 3).verdict
+    refused 3 [] (verdict_in (closing_of (bits (minus d01)) 33))
+    && refused 4 (11 ∷ []) (verdict_in (closing_of (bits (minus d01)) 3))
 
 -- "Fewer than three tubes close at the body radius": by the formula two would divide by about 0; four close on 0.05 m
 abbrev pub closing_radii : Bool
 closing_radii =
-    is (closing_of (bits one) 2).radius_m one
-    && is (closing_of (bits one) 1).radius_m one
-    && is (closing_of (bits 0x3fa9_9999_9999_999a) 4).radius_m 0x3fbe_e6e5_1ecc_2fd5
+    is (radius_told (closing_of (bits one) 2)) one
+    && is (radius_told (closing_of (bits one) 1)) one
+    && is (radius_told (closing_of (bits 0x3fa9_9999_9999_999a) 4)) 0x3fbe_e6e5_1ecc_2fd5
 
 -- a tube's axis stands at body radius plus outer radius, its middle half its length aft
 abbrev pub axis_beside_the_body : Bool

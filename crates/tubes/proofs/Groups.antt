@@ -19,7 +19,8 @@ pub tube_check_by_group : (set : TubeFinSet) (radius : Float) → tube_check set
     ∷ []))
 unfolding mount_check tube_check
 tube_check_by_group set radius =
-    sym (in_two (mount_checks set radius)
+    sym
+    (in_two (mount_checks set radius)
     (length_check tube_length_field set.length_m
     ∷ length_check outer_radius_field set.outer_radius_m
     ∷ wall_check set.thickness_m

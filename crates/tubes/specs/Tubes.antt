@@ -1,5 +1,5 @@
 -- A ring of tubes (document 02, Paper 3; fins.rs, `TubeFinSet::mass_properties`; parts.rs, `hollow_cylinder`).
-use Rattle.std.specs.Prelude.{List, [], ◌∷◌, ◌++◌, Float, true, false}
+use Rattle.std.specs.Prelude.{List, [], ◌∷◌, ◌++◌, Float, true, false, Result}
 use Rattle.std.specs.Float.Ieee.{neg, lt}
 use Rattle.floats.specs.Operations.{◌⊕◌, ◌⊖◌, ◌⊗◌, ◌⊘◌, bits}
 use Rattle.floats.specs.Constants.{half, twelve, pi}
@@ -8,14 +8,14 @@ use Rattle.bodies.specs.Vectors.{vector}
 use Rattle.bodies.specs.Tensors.{diagonal}
 use Rattle.bodies.specs.Bodies.{translated_of}
 use Rattle.refusals.specs.declared.Refusal.TheVariants.{Length, WallOverRadius}
+use Rattle.refusals.specs.declared.Refusal.{Refusal}
 use Rattle.refusals.specs.Verdict.{Verdict}
+use Rattle.refusals.specs.Results.{unless_refused}
 use Rattle.refusals.specs.Order.{refuse_unless, refuse_when, first_of}
 use Rattle.limits.specs.Limits.{thickness_field, body_radius_field, base_angle_field, tube_length_field, outer_radius_field}
 use Rattle.limits.specs.Limits.{length_within, length_check, angle_check, count_check}
 use Rattle.materials.specs.Materials.{density_check}
 use Rattle.materials.specs.Numbered.{density_figure}
-use Rattle.joins.specs.declared.JoinedBody.{JoinedBody}
-use Rattle.joins.specs.Joins.{unless_refused}
 use Rattle.rings.specs.Rings.{joined_copies}
 use Rattle.tubes.specs.declared.TubeFinSet.{TubeFinSet}
 
@@ -86,6 +86,6 @@ tube_check set radius =
     ∷ [])
 
 -- a ring of tubes, made as one of fins is: a tube is turned although it is round
-abbrev pub tubes_of : TubeFinSet → Float → JoinedBody
+abbrev pub tubes_of : TubeFinSet → Float → Result Body Refusal
 tubes_of set radius =
     unless_refused (tube_check set radius) (joined_copies (tube_at set radius) set.base_angle_rad set.count)

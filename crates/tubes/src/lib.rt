@@ -8,13 +8,11 @@
 #![tactic(auto)]
 
 ghost use Rattle.std.specs.Prelude.{◌≡◌, ◌≤◌};
-ghost use Rattle.refusals.specs.Given.{IsVerdict};
 ghost use Rattle.joins.specs.Joins.{IsJoined};
 ghost use Rattle.tubes.specs.Tubes.{hollow_cylinder, tube_at, wall_check, mount_check, tube_check, tubes_of};
-ghost use Rattle.tubes.specs.Closing.{closing_value, closed_at, refused_radius, IsClosing, closing_of};
+ghost use Rattle.tubes.specs.Closing.{closing_value, IsClosing, closing_of};
 
 use bodies::{Body, Tensor, Vector};
-use joins::JoinedBody;
 use materials::Density;
 use refusals::{Refusal, Verdict};
 
@@ -28,13 +26,6 @@ pub struct TubeFinSet {
     pub thickness_m: f64,
     pub base_angle_rad: f64,
     pub density: Density,
-}
-
-// The outer radius of tubes that close the ring around a body, or zero with a refusal.
-#[derive(Clone, Copy)]
-pub struct ClosingRadius {
-    pub verdict: Verdict,
-    pub radius_m: f64,
 }
 
 // Returns a tube on the axis with its forward end at the origin. A wall as thick as the outer radius makes it solid, a
@@ -97,9 +88,8 @@ fn check_mount(set: TubeFinSet, body_radius_m: f64) -> Verdict
 }
 
 // Checks a ring of tubes and returns its first refusal, in the order of document 02, Paper 3.
-#[tactic(auto, using(refusals::proofs::Given::is_answer, crate::proofs::Groups::tube_check_by_group))]
 fn check_tubes(set: TubeFinSet, body_radius_m: f64) -> Verdict
-    ensures { IsVerdict result (tube_check set body_radius_m) }
+    ensures { result ≡ tube_check set body_radius_m }
 {
     check_mount(set, body_radius_m)?;
     limits::check_length(limits::TUBE_LENGTH, set.length_m)?;
@@ -111,17 +101,12 @@ fn check_tubes(set: TubeFinSet, body_radius_m: f64) -> Verdict
 
 // Returns the ring's mass, centre and tensor, on a body of the given radius. The frame's origin is on the axis at the
 // tubes' forward end.
-pub fn mass_properties(set: TubeFinSet, body_radius_m: f64) -> JoinedBody
+pub fn mass_properties(set: TubeFinSet, body_radius_m: f64) -> Result<Body, Refusal>
     ensures { IsJoined result (tubes_of set body_radius_m) }
 {
-    let verdict = check_tubes(set, body_radius_m);
-    match verdict {
-        Ok(()) => {
-            let one = tube_at(set, body_radius_m);
-            joins::accepted(rings::ring(one, set.base_angle_rad, set.count))
-        }
-        Err(refusal) => joins::refused(refusal),
-    }
+    check_tubes(set, body_radius_m)?;
+    let one = tube_at(set, body_radius_m);
+    Ok(rings::ring(one, set.base_angle_rad, set.count))
 }
 
 // Returns the closing radius itself. No ring of one or two tubes closes, and theirs is the body's radius.
@@ -139,30 +124,11 @@ fn closing_value(body_radius_m: f64, count: usize) -> f64
 
 // Returns the outer radius of `count` tubes that close the ring around a body, each touching the body and its two
 // neighbours. The radius is held to no limit.
-pub fn closing_radius_m(body_radius_m: f64, count: usize) -> ClosingRadius
+#[tactic(auto, unfolding(crate::specs::Closing::closing_of))]
+pub fn closing_radius_m(body_radius_m: f64, count: usize) -> Result<f64, Refusal>
     ensures { IsClosing result (closing_of body_radius_m count) }
 {
-    let radius = limits::check_length(limits::BODY_RADIUS, body_radius_m);
-    let verdict = limits::check_count(count).and(radius);
-    match verdict {
-        Ok(()) => closed(closing_value(body_radius_m, count)),
-        Err(refusal) => refused(refusal),
-    }
-}
-
-fn closed(radius_m: f64) -> ClosingRadius
-    ensures { result ≡ closed_at radius_m }
-{
-    let verdict = Ok(());
-    ClosingRadius { verdict, radius_m }
-}
-
-fn refused(refusal: Refusal) -> ClosingRadius
-    ensures { result ≡ refused_radius refusal }
-{
-    let verdict = Err(refusal);
-    ClosingRadius {
-        verdict,
-        radius_m: 0.0,
-    }
+    limits::check_count(count)?;
+    limits::check_length(limits::BODY_RADIUS, body_radius_m)?;
+    Ok(closing_value(body_radius_m, count))
 }

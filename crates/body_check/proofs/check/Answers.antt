@@ -2,7 +2,6 @@
 use mathlib.Core.Path.{sym, ◌∙◌}
 use borrow.Author.Tests.{not-true, not-false}
 use Rattle.refusals.proofs.Given.{is_answer}
-use Rattle.floats.proofs.is_finite.Reads as is-finite-reads'
 use Rattle.body_check.proofs.check.Goals as goal
 
 pub returns-then-not-is_finite : goal.returns-then-not-is_finite

@@ -1,5 +1,5 @@
 -- `body_check::largest_magnitude` meets its contract: after k entries the largest of their magnitudes is in hand. Assumes nothing.
-use Rattle.std.proofs.Common.{rules, refl, add-one}
+use Rattle.std.proofs.Common.{refl, add-one}
 use Rattle.body_check.specs.BodyCheck.{largest_magnitude}
 use Rattle.body_check.proofs.largest_magnitude.Goals as goal
 

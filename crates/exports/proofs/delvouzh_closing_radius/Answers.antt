@@ -13,5 +13,6 @@ pub returns : goal.returns
 returns c =
     let a = c.args in
     closing_written c.if-radius-lt1.false c.if-values-lt2.false c.closing_radius_m-found.ensures.is
+    c.verdict_in-verdict.ensures c.unwrap_or.ensures
     (one_written a.radius.now _ c.if-radius-lt1.false)
     c.write_values.ensures c.verdict_number.ensures

@@ -7,4 +7,5 @@ returns-then-body-lt-BODY_NUMBERS c = join_refused c.if-body-lt-BODY_NUMBERS.tru
 
 pub returns : goal.returns
 returns c =
-    join_written c.if-body-lt-BODY_NUMBERS.false c.combine-joined.ensures.is c.write_body.ensures c.verdict_number.ensures
+    join_written c.if-body-lt-BODY_NUMBERS.false c.combine-joined.ensures.is c.verdict_in-verdict.ensures
+    c.unwrap_or.ensures c.write_body.ensures c.verdict_number.ensures

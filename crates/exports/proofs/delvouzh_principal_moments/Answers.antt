@@ -10,5 +10,6 @@ returns-then-values-lt2 c = moments_refused (short_counts c.if-moments-lt3.false
 
 pub returns : goal.returns
 returns c =
-    moments_written c.if-moments-lt3.false c.if-values-lt2.false c.tensor_moments-found.ensures c.write_three.ensures
+    moments_written c.if-moments-lt3.false c.if-values-lt2.false c.tensor_moments-found.ensures
+    c.verdict_in-verdict.ensures c.unwrap_or-m.ensures c.write_three.ensures
     c.write_values.ensures c.verdict_number.ensures

@@ -5,7 +5,9 @@ use lib.ListN.{take, drop}
 use lib.Ieee.{Float}
 use Rattle.refusals.specs.Verdict.{Verdict}
 use Rattle.bodies.specs.Layout.{body_numbers}
-use Rattle.joins.specs.declared.JoinedBody.{JoinedBody}
+use Rattle.std.specs.Prelude.{Result}
+use Rattle.refusals.specs.declared.Refusal.{Refusal}
+use Rattle.bodies.specs.declared.Body.{Body}
 use Rattle.requests.specs.Calls.{copied_by, placed_by, moved_by, without_by}
 use Rattle.answers.specs.declared.Reply.{Reply}
 use Rattle.answers.specs.declared.Shape.TheVariants.{Joined as JoinedShape, Ring as RingShape, Body as BodyShape, Sound as SoundShape}
@@ -14,11 +16,11 @@ use Rattle.lines.proofs.Served.{known, stays, set_served, area_served, submit_se
 use Rattle.lines.proofs.request_reply.Goals as goal
 
 -- a body of one or two others, and of what else was cut from the figures
-of_two : (f : List Float → List Float → JoinedBody) {a b x y : List Float} {j : JoinedBody} {r : Reply} → a ≡ x → b ≡ y → j ≡ f a b
-    → r ≡ body_reply BodyShape j → r ≡ body_reply BodyShape (f x y)
+of_two : (f : List Float → List Float → Result Body Refusal) {a b x y : List Float} {j : Result Body Refusal} {r : Reply} → a ≡ x → b ≡ y
+    → j ≡ f a b → r ≡ body_reply BodyShape j → r ≡ body_reply BodyShape (f x y)
 of_two f e g h k = k ∙ ap (body_reply BodyShape) (h ∙ ap₂ f e g)
 
-part_moved : {a b d x y z : List Float} {j : JoinedBody} {r : Reply} → a ≡ x → b ≡ y → d ≡ z → j ≡ moved_by a b d
+part_moved : {a b d x y z : List Float} {j : Result Body Refusal} {r : Reply} → a ≡ x → b ≡ y → d ≡ z → j ≡ moved_by a b d
     → r ≡ body_reply BodyShape j
     → r ≡ body_reply BodyShape (moved_by x y z)
 part_moved {b = b} {d} {x} e f g h k = k ∙ ap (body_reply BodyShape) (h ∙ ap (λ (w : List Float). moved_by w b d) e ∙ ap₂ (moved_by x) f g)

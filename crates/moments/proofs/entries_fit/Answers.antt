@@ -1,10 +1,7 @@
 -- `moments::entries_fit` meets its contract: every entry passed fits, and one that does not settles it. Assumes nothing.
-use mathlib.Core.Path.{sym, ap, ◌∙◌}
+use mathlib.Core.Path.{sym}
 use native.Mathlib.Omega.{arith}
-use Rattle.std.proofs.Common.{◌≡◌, ℕ}
-use Rattle.floats.specs.Operations.{at, every}
 use Rattle.bodies.specs.Layout.{tensor_numbers}
-use Rattle.moments.specs.Moments.{entry_fits}
 use Rattle.floats.proofs.Every.{every_none, every_more, every_not}
 use Rattle.moments.proofs.entries_fit.Goals as goal
 

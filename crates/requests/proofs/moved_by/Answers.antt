@@ -10,13 +10,12 @@ use Rattle.requests.proofs.moved_by.Goals as goal
 
 pub returns-then-whole-ne-BODY_NUMBERS : goal.returns-then-whole-ne-BODY_NUMBERS
 unfolding moved_by
-returns-then-whole-ne-BODY_NUMBERS c = simp (ne_eqb _ _ c.if-whole-ne-BODY_NUMBERS.true) c.refused.ensures
+returns-then-whole-ne-BODY_NUMBERS c = simp (ne_eqb _ _ c.if-whole-ne-BODY_NUMBERS.true)
 
 pub returns-then-part-ne-BODY_NUMBERS : goal.returns-then-part-ne-BODY_NUMBERS
 unfolding moved_by
 returns-then-part-ne-BODY_NUMBERS c =
     simp (eq-eqb _ _ c.if-whole-ne-BODY_NUMBERS.false, ne_eqb _ _ c.if-part-ne-BODY_NUMBERS.true)
-    c.refused-then-part-ne-BODY_NUMBERS.ensures
 
 pub returns-then-offset-ne3 : goal.returns-then-offset-ne3
 unfolding moved_by
@@ -25,7 +24,7 @@ returns-then-offset-ne3 c = simp (
   eq-eqb _ _ c.if-part-ne-BODY_NUMBERS.false,
   ne_eqb _ _
       c.if-offset-ne3.true,
-) c.refused-then-offset-ne3.ensures
+)
 
 pub returns : goal.returns
 unfolding moved_by

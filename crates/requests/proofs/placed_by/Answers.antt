@@ -8,7 +8,7 @@ use Rattle.requests.proofs.placed_by.Goals as goal
 
 pub returns-then-body-ne-BODY_NUMBERS : goal.returns-then-body-ne-BODY_NUMBERS
 unfolding placed_by
-returns-then-body-ne-BODY_NUMBERS c = simp (ne_eqb _ _ c.if-body-ne-BODY_NUMBERS.true) c.refused.ensures
+returns-then-body-ne-BODY_NUMBERS c = simp (ne_eqb _ _ c.if-body-ne-BODY_NUMBERS.true)
 
 pub returns : goal.returns
 unfolding placed_by

@@ -6,7 +6,7 @@ use Rattle.requests.proofs.ring_figures.Goals as goal
 
 pub returns-then-numbers-ne6 : goal.returns-then-numbers-ne6
 unfolding ring_by
-returns-then-numbers-ne6 c = simp (ne_eqb _ _ c.if-numbers-ne6.true) c.refused.ensures
+returns-then-numbers-ne6 c = simp (ne_eqb _ _ c.if-numbers-ne6.true)
 
 pub returns-in-Some : goal.returns-in-Some
 unfolding ring_by
@@ -18,4 +18,3 @@ pub returns-in-None : goal.returns-in-None
 unfolding ring_by
 returns-in-None c =
     rw (eq-eqb _ _ c.if-numbers-ne6.false, sym c.numbered_density-found.ensures ∙ c.in-None.is)
-    c.refused-in-None.ensures

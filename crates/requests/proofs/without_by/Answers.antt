@@ -8,13 +8,12 @@ use Rattle.requests.proofs.without_by.Goals as goal
 
 pub returns-then-whole-ne-BODY_NUMBERS : goal.returns-then-whole-ne-BODY_NUMBERS
 unfolding without_by
-returns-then-whole-ne-BODY_NUMBERS c = simp (ne_eqb _ _ c.if-whole-ne-BODY_NUMBERS.true) c.refused.ensures
+returns-then-whole-ne-BODY_NUMBERS c = simp (ne_eqb _ _ c.if-whole-ne-BODY_NUMBERS.true)
 
 pub returns-then-part-ne-BODY_NUMBERS : goal.returns-then-part-ne-BODY_NUMBERS
 unfolding without_by
 returns-then-part-ne-BODY_NUMBERS c =
     simp (eq-eqb _ _ c.if-whole-ne-BODY_NUMBERS.false, ne_eqb _ _ c.if-part-ne-BODY_NUMBERS.true)
-    c.refused-then-part-ne-BODY_NUMBERS.ensures
 
 pub returns : goal.returns
 unfolding without_by
