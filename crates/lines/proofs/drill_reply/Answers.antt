@@ -3,7 +3,7 @@ use mathlib.Core.List.{List}
 use mathlib.Core.Path.{◌≡◌, sym, ap, ◌∙◌}
 use lib.Ieee.{Float}
 use Rattle.planforms.specs.declared.Planform.{Planform}
-use Rattle.std.specs.Prelude.{Result}
+use Rattle.std.specs.Prelude.{Result, Ok}
 use Rattle.refusals.specs.declared.Refusal.{Refusal}
 use Rattle.drill.specs.declared.Place.{Place}
 use Rattle.drill.specs.Drill.{drill_of}
@@ -18,15 +18,15 @@ drilled planform x height k d e h = h ∙ ap drill_reply (sym k ∙ d ∙ ap (λ
 
 pub returns-in-Ok-Inside : goal.returns-in-Ok-Inside
 returns-in-Ok-Inside c =
-    drilled _ _ _ c.in-Ok-Inside.is c.drill-found.ensures.is c.first-outline.ensures c.count_reply.ensures
+    drilled _ _ _ (c.in-Ok-Inside.is ∙ ap (λ (place : Place). Ok place) c.in-Ok-Inside.field-0-is) c.drill-found.ensures.is c.first-outline.ensures c.count_reply.ensures
 
 pub returns-in-Ok-Edge : goal.returns-in-Ok-Edge
 returns-in-Ok-Edge c =
-    drilled _ _ _ c.in-Ok-Edge.is c.drill-found.ensures.is c.first-outline.ensures c.count_reply-in-Ok-Edge.ensures
+    drilled _ _ _ (c.in-Ok-Edge.is ∙ ap (λ (place : Place). Ok place) c.in-Ok-Edge.field-0-is) c.drill-found.ensures.is c.first-outline.ensures c.count_reply-in-Ok-Edge.ensures
 
 pub returns-in-Ok-Outside : goal.returns-in-Ok-Outside
 returns-in-Ok-Outside c =
-    drilled _ _ _ c.in-Ok-Outside.is c.drill-found.ensures.is c.first-outline.ensures c.count_reply-in-Ok-Outside.ensures
+    drilled _ _ _ (c.in-Ok-Outside.is ∙ ap (λ (place : Place). Ok place) c.in-Ok-Outside.field-0-is) c.drill-found.ensures.is c.first-outline.ensures c.count_reply-in-Ok-Outside.ensures
 
 pub returns-in-Err : goal.returns-in-Err
 returns-in-Err c =
