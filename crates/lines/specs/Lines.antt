@@ -104,10 +104,13 @@ abbrev pub moments_reply : Result (List Float) Refusal → Reply
 moments_reply (Ok moments) = reply MomentsShape (at moments 0 ∷ at moments 1 ∷ at moments 2 ∷ []) []
 moments_reply (Err refusal) = refused_reply refusal
 
+abbrev pub place_reply : Place → Reply
+place_reply (Inside nearest) = reply InsideShape [] (nearest ∷ [])
+place_reply (Edge nearest) = reply EdgeShape [] (nearest ∷ [])
+place_reply (Outside nearest) = reply OutsideShape [] (nearest ∷ [])
+
 abbrev pub drill_reply : Result Place Refusal → Reply
-drill_reply (Ok (Inside nearest)) = reply InsideShape [] (nearest ∷ [])
-drill_reply (Ok (Edge nearest)) = reply EdgeShape [] (nearest ∷ [])
-drill_reply (Ok (Outside nearest)) = reply OutsideShape [] (nearest ∷ [])
+drill_reply (Ok place) = place_reply place
 drill_reply (Err refusal) = refused_reply refusal
 
 -- the answer of a turn with which a screen's job has ended: the job's figures, or the number that refused it

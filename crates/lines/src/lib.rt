@@ -17,13 +17,13 @@ ghost use Rattle.figures.specs.Areas.{area_call};
 ghost use Rattle.lent_engines.specs.Memory.{engine_numbers_length, engine_counts_length};
 ghost use Rattle.lent_engines.specs.Lent.{Room};
 ghost use Rattle.lines.specs.Lines.{refused_reply, unless_refused, plain_reply, set_reply, area_reply, body_reply};
-ghost use Rattle.lines.specs.Lines.{closing_reply, moments_reply, drill_reply, done_reply, progress_reply, replied_by};
+ghost use Rattle.lines.specs.Lines.{closing_reply, moments_reply, place_reply, drill_reply, done_reply, progress_reply, replied_by};
 ghost use Rattle.lines.specs.Lines.{turn_effect, effect_of, line_effect};
 ghost use Rattle.lines.specs.Lines.{memory_in, lent_in, Serves, LeavesLent, Answers};
 
 use answers::{ANSWER_BYTES, Reply, Shape};
-use drill::Place;
 use bodies::{BODY_NUMBERS, Body};
+use drill::Place;
 use engines::Turn;
 use figures::Figures;
 use fins::FinSet;
@@ -191,16 +191,23 @@ fn count_reply(shape: Shape, count: usize) -> Reply
     }
 }
 
+fn place_reply(place: Place) -> Reply
+    ensures { result ≡ place_reply place }
+{
+    match place {
+        Place::Inside(nearest) => count_reply(Shape::Inside, nearest),
+        Place::Edge(nearest) => count_reply(Shape::Edge, nearest),
+        Place::Outside(nearest) => count_reply(Shape::Outside, nearest),
+    }
+}
+
 // Returns where a point lies beside a planform, with the position of the nearest corner, or the refusal.
 fn drill_reply(planform: Planform, points: usize, x: f64, height: f64, values: &[f64]) -> Reply
     ensures { result ≡ drill_reply (drill_of planform (take points values.now) x height) }
 {
     let outline = reading::first(values, points);
-    let found = drill::drill(planform, outline, x, height);
-    match found {
-        Ok(Place::Inside(nearest)) => count_reply(Shape::Inside, nearest),
-        Ok(Place::Edge(nearest)) => count_reply(Shape::Edge, nearest),
-        Ok(Place::Outside(nearest)) => count_reply(Shape::Outside, nearest),
+    match drill::drill(planform, outline, x, height) {
+        Ok(place) => place_reply(place),
         Err(refusal) => refused_reply(refusal),
     }
 }

@@ -16,18 +16,9 @@ drilled : (planform : Planform) (x height : Float) {outline points : List Float}
     ≡ drill_reply (drill_of planform points x height)
 drilled planform x height k d e h = h ∙ ap drill_reply (sym k ∙ d ∙ ap (λ (p : List Float). drill_of planform p x height) e)
 
-pub returns-in-Ok-Inside : goal.returns-in-Ok-Inside
-returns-in-Ok-Inside c =
-    drilled _ _ _ (c.in-Ok-Inside.is ∙ ap (λ (place : Place). Ok place) c.in-Ok-Inside.field-0-is) c.drill-found.ensures.is c.first-outline.ensures c.count_reply.ensures
-
-pub returns-in-Ok-Edge : goal.returns-in-Ok-Edge
-returns-in-Ok-Edge c =
-    drilled _ _ _ (c.in-Ok-Edge.is ∙ ap (λ (place : Place). Ok place) c.in-Ok-Edge.field-0-is) c.drill-found.ensures.is c.first-outline.ensures c.count_reply-in-Ok-Edge.ensures
-
-pub returns-in-Ok-Outside : goal.returns-in-Ok-Outside
-returns-in-Ok-Outside c =
-    drilled _ _ _ (c.in-Ok-Outside.is ∙ ap (λ (place : Place). Ok place) c.in-Ok-Outside.field-0-is) c.drill-found.ensures.is c.first-outline.ensures c.count_reply-in-Ok-Outside.ensures
+pub returns-in-Ok : goal.returns-in-Ok
+returns-in-Ok c = drilled _ _ _ c.in-Ok.is c.drill.ensures.is c.first-outline.ensures c.place_reply.ensures
 
 pub returns-in-Err : goal.returns-in-Err
 returns-in-Err c =
-    drilled _ _ _ c.in-Err.is c.drill-found.ensures.is c.first-outline.ensures c.refused_reply.ensures
+    drilled _ _ _ c.in-Err.is c.drill.ensures.is c.first-outline.ensures c.refused_reply.ensures
