@@ -9,14 +9,15 @@ use native.Mathlib.Omega.{arith}
 use lib.ListN.{length, take, drop}
 use Rattle.lines.specs.Lines.{Memory}
 use Rattle.input_lines.specs.Lines.{lines_within, lines_of}
-use Rattle.input_lines.specs.Taking.{Begun}
+use Rattle.input_lines.specs.Taking.{Place, Begun}
 use Rattle.inputs.specs.Inputs.{replies}
-use Rattle.inputs.specs.States.{Place, memory_at, Answered}
+use Rattle.inputs.specs.States.{Answered}
 use Rattle.inputs.proofs.Lengths.{some_replied}
 use Rattle.reads.specs.Reads.{at_end}
-use Rattle.card.specs.declared.Step.{Step}
-use Rattle.card.specs.declared.End.{End}
-use Rattle.card.specs.Program.{at_first, Steps, Runs}
+use Rattle.line_runs.specs.declared.Step.{Step}
+use Rattle.line_runs.specs.declared.End.{End}
+use Rattle.card.specs.declared.Replying.{Replying}
+use Rattle.card.specs.Program.{at_first, memory_at, Steps, Runs}
 
 pub some_handed : (left : Memory) (out : List ℕ) (r : End) → Runs left out r → at_end r.turn.got ≡ true → 0 < r.turn.read
     → 0 < r.handed
@@ -29,9 +30,9 @@ some_handed left out r p e h =
     omega arith
 
 -- two programs that meet it, and take as many bytes from the same place on
-pub same_written : {p q r : Place} {s t u : Step} {chunk out written : List ℕ} (begun : List ℕ) → Begun p begun → t.taken ≡ u.taken
+pub same_written : {p q r : Place Replying} {s t u : Step} {chunk out written : List ℕ} (begun : List ℕ) → Begun p begun → t.taken ≡ u.taken
     → Steps p q s t chunk out → Steps p r s u chunk written → take t.written out ≡ take u.written written
 same_written {p = p} {s = s} {chunk = chunk} begun k e a b =
-    (a.takes.answers begun k).replied
-    ∙ ap (λ (n : ℕ). replies (lines_within begun (take (n - s.taken) (drop s.taken chunk))) (memory_at p)) e
-    ∙ sym (b.takes.answers begun k).replied
+    (a.takes.answers begun k).answered.replied
+    ∙ ap (λ (n : ℕ). replies (lines_within begun (take (n - s.taken) (drop s.taken chunk))) (memory_at p.memory)) e
+    ∙ sym (b.takes.answers begun k).answered.replied

@@ -1,3 +1,4 @@
+pub mod Laws
 pub mod Program
 pub mod Screens
 pub mod Cards

@@ -9,79 +9,45 @@
 // these bytes are.
 #![tactic(auto)]
 
-ghost use Rattle.std.specs.Prelude.{◌≡◌, ◌+◌, ◌<◌, length};
+ghost use Rattle.std.specs.Prelude.{◌≡◌, ◌+◌, ◌<◌, ◌≤◌, length};
 ghost use Rattle.texts.specs.Appended.{Appended};
-ghost use Rattle.lines.specs.Lines.{memory_in};
-ghost use Rattle.inputs.specs.Inputs.{ReplyFits};
-ghost use Rattle.inputs.specs.States.{place_in, Lent};
+ghost use Rattle.tokens.specs.Tokens.{line_bytes};
+ghost use Rattle.input_lines.specs.Taking.{place_in};
+ghost use Rattle.inputs.specs.Inputs.{reply_bytes, ReplyFits};
 ghost use Rattle.reads.specs.Reads.{most_read};
-ghost use Rattle.card.specs.Program.{at_first, no_line, told, Lends, Counted};
-ghost use Rattle.card.specs.Program.{Steps, Replies, Turns, Ends, Closes, Runs};
+ghost use Rattle.line_runs.specs.Runs.{no_line, Lends};
+ghost use Rattle.card.specs.Program.{at_first, told, memory_at, Counted, Ready, AnsweredOver, StaysOver};
+ghost use Rattle.card.specs.Program.{Steps, Ends, Runs};
+ghost use Rattle.card.specs.Laws.{laws, still_ready, told_stays, few};
 
 use arguments::Command;
 use input_lines::State;
 use lent_engines::{ENGINE_COUNTS, ENGINE_NUMBERS};
-use reads::MOST_READ;
+use line_runs::{Answers, End, Last, Step};
 
-// Where the program stands in a chunk: the line that has begun, how many bytes of the chunk are taken, how many bytes
-// of replies were handed to write since the program began, how many of them with the last write, and whether that
-// took them all.
-#[derive(Clone, Copy)]
-struct Step {
-    state: State,
-    taken: usize,
-    handed: usize,
-    written: usize,
-    all: bool,
-}
-
-// Where the program stands between two reads: the line that has begun, what the last read gave, how many bytes were
-// read and how many of replies were handed to write since the program began, whether every write took all that it was
-// handed, and whether to read on.
-#[derive(Clone, Copy)]
-struct Turn {
-    state: State,
-    got: isize,
-    read: usize,
-    handed: usize,
-    all: bool,
-    more: bool,
-}
-
-// The last write: how many bytes it was handed, and whether it took them all.
-#[derive(Clone, Copy)]
-struct Last {
-    written: usize,
-    all: bool,
-}
-
-// The end of a run: its last turn, whether every write took all that it was handed, how many bytes of replies were
-// handed to write, and how many bytes are to be told on standard error.
-#[derive(Clone, Copy)]
-struct End {
-    turn: Turn,
-    all: bool,
-    handed: usize,
-    told: usize,
+// What replies to lines: a scratch and an engine, kept from the first line to the last, and the buffer in which replies
+// are put to be written.
+#[derive(Drop)]
+struct Replying {
+    scratch: [f64; limits::SCRATCH_NUMBERS],
+    engine_numbers: [f64; ENGINE_NUMBERS],
+    engine_counts: [usize; ENGINE_COUNTS],
+    out: [u8; 65536],
 }
 
 // Feeds the bytes of a chunk from where the program stands on, up to the chunk's end or to where `out` is full, and
 // writes the replies.
 fn reply_next(
+    replying: &mut Replying,
     rt: HostRuntime,
     buffer: &mut [u8],
     s: Step,
     chunk: &[u8],
-    scratch: &mut [f64],
-    engine_numbers: &mut [f64],
-    engine_counts: &mut [usize],
-    out: &mut [u8],
 ) -> Step
-    requires { Lends (place_in buffer.old s.state scratch.old engine_numbers.old engine_counts.old) chunk.now out.old
-        × Counted (most_read + s.taken) s.handed × (s.taken < length chunk.now) }
-    ensures { Steps (place_in buffer.old s.state scratch.old engine_numbers.old engine_counts.old)
-        (place_in buffer.new result.state scratch.new engine_numbers.new engine_counts.new) s result
-        chunk.now out.new }
+    requires { Lends buffer.old s.state chunk.now × Counted (most_read + s.taken) s.handed × (s.taken < length chunk.now)
+        × Ready replying.old }
+    ensures { Steps (place_in buffer.old s.state replying.old) (place_in buffer.new result.state replying.new) s result
+        chunk.now replying.new.out }
 {
     let at = s.taken;
     let begun = s.state;
@@ -89,15 +55,15 @@ fn reply_next(
         buffer,
         begun,
         &chunk[at..],
-        scratch,
-        engine_numbers,
-        engine_counts,
-        out,
+        &mut replying.scratch,
+        &mut replying.engine_numbers,
+        &mut replying.engine_counts,
+        &mut replying.out,
         0,
     );
     let state = fed.state;
     let written = fed.written;
-    let all = rt.stdout().write_all(&out[..written]).is_ok();
+    let all = rt.stdout().write_all(&replying.out[..written]).is_ok();
     Step {
         state,
         taken: at + fed.taken,
@@ -107,112 +73,21 @@ fn reply_next(
     }
 }
 
-// Feeds a chunk and writes the replies, until all its bytes are taken or a write did not take all that it was handed.
-fn reply_to(
-    rt: HostRuntime,
-    buffer: &mut [u8],
-    s: State,
-    chunk: &[u8],
-    scratch: &mut [f64],
-    engine_numbers: &mut [f64],
-    engine_counts: &mut [usize],
-    out: &mut [u8],
-    handed: usize,
-) -> Step
-    requires { Lends (place_in buffer.old s scratch.old engine_numbers.old engine_counts.old) chunk.now out.old
-        × Counted most_read handed }
-    ensures { Replies (place_in buffer.old s scratch.old engine_numbers.old engine_counts.old)
-        (place_in buffer.new result.state scratch.new engine_numbers.new engine_counts.new) chunk.now handed result }
-{
-    let mut step = Step {
-        state: s,
-        taken: 0,
-        handed,
-        written: 0,
-        all: true,
-    };
-    while step.all && step.taken < chunk.len() {
-        step = reply_next(
-            rt,
-            buffer,
-            step,
-            chunk,
-            scratch,
-            engine_numbers,
-            engine_counts,
-            out,
-        );
-    }
-    step
-}
-
-// Reads once and replies to the lines that end in the bytes read. A read that brings no byte ends the run.
-fn take_turn(
-    rt: HostRuntime,
-    buffer: &mut [u8],
-    t: Turn,
-    chunk: &mut [u8],
-    scratch: &mut [f64],
-    engine_numbers: &mut [f64],
-    engine_counts: &mut [usize],
-    out: &mut [u8],
-) -> Turn
-    requires { Lends (place_in buffer.old t.state scratch.old engine_numbers.old engine_counts.old) chunk.old out.old
-        × Counted most_read t.handed × (t.read < most_read) }
-    ensures { Turns (place_in buffer.old t.state scratch.old engine_numbers.old engine_counts.old)
-        (place_in buffer.new result.state scratch.new engine_numbers.new engine_counts.new) t result chunk.new }
-{
-    let got = reads::read(&mut rt.stdin(), chunk);
-    let n = io::count(got, chunk);
-    let state = t.state;
-    if n == 0 {
-        return Turn {
-            state,
-            got,
-            read: t.read,
-            handed: t.handed,
-            all: true,
-            more: false,
-        };
-    }
-    let step = reply_to(
-        rt,
-        buffer,
-        state,
-        &chunk[..n],
-        scratch,
-        engine_numbers,
-        engine_counts,
-        out,
-        t.handed,
-    );
-    let next = step.state;
-    Turn {
-        state: next,
-        got,
-        read: t.read + n,
-        handed: step.handed,
-        all: step.all,
-        more: step.all,
-    }
-}
-
 // Writes the reply to a last line without a newline, where there is one.
-fn reply_last(
-    rt: HostRuntime,
-    buffer: &[u8],
-    s: State,
-    scratch: &mut [f64],
-    engine_numbers: &mut [f64],
-    engine_counts: &mut [usize],
-    out: &mut [u8],
-) -> Last
-    requires { Lent (place_in buffer.now s scratch.old engine_numbers.old engine_counts.old) × ReplyFits out.old 0 }
-    ensures { Ends (place_in buffer.now s scratch.old engine_numbers.old engine_counts.old)
-        (place_in buffer.now s scratch.new engine_numbers.new engine_counts.new) out.new result }
+fn reply_last(replying: &mut Replying, rt: HostRuntime, buffer: &[u8], s: State) -> Last
+    requires { (line_bytes ≤ length buffer.now) × (s.kept ≤ line_bytes) × Ready replying.old }
+    ensures { Ends (place_in buffer.now s replying.old) replying.new replying.new.out result }
 {
-    let written = inputs::finish(buffer, s, scratch, engine_numbers, engine_counts, out, 0);
-    let all = rt.stdout().write_all(&out[..written]).is_ok();
+    let written = inputs::finish(
+        buffer,
+        s,
+        &mut replying.scratch,
+        &mut replying.engine_numbers,
+        &mut replying.engine_counts,
+        &mut replying.out,
+        0,
+    );
+    let all = rt.stdout().write_all(&replying.out[..written]).is_ok();
     Last { written, all }
 }
 
@@ -233,115 +108,67 @@ fn tell(out: &mut [u8], answered: bool) -> usize
     )
 }
 
-// Ends a run: at the end of the input, a line without a newline is a line too.
-fn end_run(
-    rt: HostRuntime,
-    buffer: &[u8],
-    t: Turn,
-    scratch: &mut [f64],
-    engine_numbers: &mut [f64],
-    engine_counts: &mut [usize],
-    out: &mut [u8],
-) -> End
-    requires { Lent (place_in buffer.now t.state scratch.old engine_numbers.old engine_counts.old) × ReplyFits out.old 0
-        × Counted (most_read + 65536) t.handed }
-    ensures { Closes (place_in buffer.now t.state scratch.old engine_numbers.old engine_counts.old)
-        (place_in buffer.now t.state scratch.new engine_numbers.new engine_counts.new) t out.new result }
-{
-    if reads::is_end(t.got) {
-        let state = t.state;
-        let last = reply_last(
-            rt,
-            buffer,
-            state,
-            scratch,
-            engine_numbers,
-            engine_counts,
-            out,
-        );
-        let told = tell(out, last.all);
-        return End {
-            turn: t,
-            all: last.all,
-            handed: t.handed + last.written,
-            told,
-        };
+impl Answers for Replying {
+    ghost answered = { AnsweredOver };
+
+    ghost stays = { StaysOver };
+
+    ghost most = { reply_bytes };
+
+    ghost ready = { λ m i. Ready m };
+
+    ghost out = { λ m. m.out };
+
+    ghost told = { λ m. told };
+
+    ghost laws = { laws };
+
+    ghost still_ready = { still_ready };
+
+    ghost told_stays = { told_stays };
+
+    ghost few = { few };
+
+    fn take_next(&mut self, rt: HostRuntime, buffer: &mut [u8], s: Step, chunk: &[u8]) -> Step {
+        reply_next(self, rt, buffer, s, chunk)
     }
-    let told = tell(out, false);
-    End {
-        turn: t,
-        all: t.all,
-        handed: t.handed,
-        told,
+
+    fn take_last(&mut self, rt: HostRuntime, buffer: &[u8], s: State) -> Last {
+        reply_last(self, rt, buffer, s)
+    }
+
+    fn tell(&mut self, all: bool) -> usize {
+        tell(&mut self.out, all)
     }
 }
 
 // Answers the whole input. Before the first read the turn stands as if a read had failed.
-fn run(
-    rt: HostRuntime,
-    buffer: &mut [u8],
-    chunk: &mut [u8],
-    scratch: &mut [f64],
-    engine_numbers: &mut [f64],
-    engine_counts: &mut [usize],
-    out: &mut [u8],
-) -> End
-    requires { Lends (place_in buffer.old no_line scratch.old engine_numbers.old engine_counts.old) chunk.old out.old
-        × (memory_in scratch.old engine_numbers.old engine_counts.old ≡ at_first) }
-    ensures { Runs (memory_in scratch.new engine_numbers.new engine_counts.new)
-        out.new result }
+fn run(replying: &mut Replying, rt: HostRuntime, buffer: &mut [u8], chunk: &mut [u8]) -> End
+    requires { Lends buffer.old no_line chunk.old × Ready replying.old × (memory_at replying.old ≡ at_first) }
+    ensures { Runs (memory_at replying.new) replying.new.out result }
 {
-    let state = input_lines::no_line();
-    let mut turn = Turn {
-        state,
-        got: -1,
-        read: 0,
-        handed: 0,
-        all: true,
-        more: true,
-    };
-    while turn.more && turn.read < MOST_READ {
-        turn = take_turn(
-            rt,
-            buffer,
-            turn,
-            chunk,
-            scratch,
-            engine_numbers,
-            engine_counts,
-            out,
-        );
-    }
-    end_run(
-        rt,
-        buffer,
-        turn,
-        scratch,
-        engine_numbers,
-        engine_counts,
-        out,
-    )
+    line_runs::run(replying, rt, buffer, chunk)
+}
+
+// Writes what is told on standard error.
+fn write_told(rt: HostRuntime, out: &[u8], told: usize)
+    requires { told ≤ length out.now }
+{
+    let _ = rt.stderr().write_all(&out[..told]);
 }
 
 // Runs the program without arguments, and tells on standard error what there is to tell.
 fn answer_input(rt: HostRuntime) {
     let mut buffer = io::buffer();
     let mut chunk = io::large_buffer();
-    let mut scratch = [0.0; limits::SCRATCH_NUMBERS];
-    let mut engine_numbers = [0.0; ENGINE_NUMBERS];
-    let mut engine_counts = [0; ENGINE_COUNTS];
-    let mut out = io::large_buffer();
-    let end = run(
-        rt,
-        &mut buffer,
-        &mut chunk,
-        &mut scratch,
-        &mut engine_numbers,
-        &mut engine_counts,
-        &mut out,
-    );
-    let told = end.told;
-    let _ = rt.stderr().write_all(&out[..told]);
+    let mut replying = Replying {
+        scratch: [0.0; limits::SCRATCH_NUMBERS],
+        engine_numbers: [0.0; ENGINE_NUMBERS],
+        engine_counts: [0; ENGINE_COUNTS],
+        out: io::large_buffer(),
+    };
+    let end = run(&mut replying, rt, &mut buffer, &mut chunk);
+    write_told(rt, &replying.out, end.told);
 }
 
 fn write_help(rt: HostRuntime) {

@@ -15,6 +15,9 @@ pub record Place (Memory : Type 0) : Type 0 where
   pub state : State
   pub memory : Memory
 
+abbrev pub place_in : {Memory : Type 0} → List ℕ → State → Memory → Place Memory
+place_in buffer s memory = record { buffer = buffer; state = s; memory = memory }
+
 -- the line that has begun at a place of the input
 abbrev pub Begun : {Memory : Type 0} → Place Memory → List ℕ → Type 0
 Begun p begun = Keeps p.buffer p.state begun

@@ -1,15 +1,11 @@
 -- `shown_lines::show_input` meets its contract: what it lends is what `run` asks for. Assumes nothing.
-use mathlib.Core.Path.{sym}
+use mathlib.Core.Path.{refl}
 use native.Mathlib.Omega.{arith}
-use lib.Seq.{length-take-le}
 use Rattle.shown_lines.proofs.show_input.Goals as goal
 
 pub run-end-requires : goal.run-end-requires
-run-end-requires c = record { line = omega arith; some = omega arith; most = omega arith; block = omega arith }
+run-end-requires c =
+    (record { line = omega arith; within = omega arith; some = omega arith; most = omega arith }, refl)
 
-pub slice_bounds-out-end : goal.slice_bounds-out-end
-slice_bounds-out-end c = c.run-end.ensures.tells.room
-
-pub slice_bounds-write_all-end : goal.slice_bounds-write_all-end
-slice_bounds-write_all-end c =
-    sym (length-take-le c.run-end.result.told c.run-end.new.out c.run-end.ensures.tells.room)
+pub write_told-requires : goal.write_told-requires
+write_told-requires c = c.run-end.ensures.tells.room

@@ -3,7 +3,7 @@ use mathlib.Core.Path.{sym, ◌∙◌}
 use native.Mathlib.Omega.{arith}
 use lib.ListN.{length-take}
 use lib.Seq.{length-take-le}
-use Rattle.shown_lines.proofs.Showing.{kept_made, put_within}
+use Rattle.shown_lines.proofs.Taking.{kept_made, put_within}
 use Rattle.shown_lines.proofs.show_line.Goals as goal
 
 pub slice_bounds-put_made-end : goal.slice_bounds-put_made-end
