@@ -1,17 +1,19 @@
 -- The strips that the code works are those of the set, or of the planform: integrand, scale and break heights. Assumes nothing.
 use Rattle.std.specs.Prelude.{Ok, Err}
 use mathlib.Core.Path.{◌≡◌, refl, ap, ◌∙◌}
-use mathlib.Core.List.{List}
+use mathlib.Core.List.{List, [], ◌∷◌}
 use Prim.Native.Nat.{ℕ}
 use lib.Ieee.{Float}
 use Rattle.refusals.specs.Verdict.{Verdict}
-use Rattle.refusals.specs.Order.{first_refusal}
+use Rattle.refusals.specs.Order.{first_refusal, first_of}
+use Rattle.limits.specs.Limits.{limit_check, scratch_check}
+use Rattle.outlines.specs.Outlines.{planform_check}
 use Rattle.planforms.specs.declared.Planform.{Planform}
 use Rattle.breaks.specs.Breaks.{break_heights}
 use Rattle.integrands.specs.declared.Integrand.{Integrand}
 use Rattle.integrands.specs.Integrands.{scale_of, area_integrand, plate_integrand, sample_of, plate_of}
 use Rattle.fins.specs.declared.FinSet.{FinSet}
-use Rattle.fins.specs.Fins.{set_check, area_check}
+use Rattle.fins.specs.Fins.{own_checks, set_check, area_check}
 use Rattle.halving.specs.declared.Integral.{Integral}
 use Rattle.strips.specs.Strips.{Worked, worked_of, summed_of, scratch_after, run_of, strips_of, Room, Runs}
 use Rattle.strips.proofs.Reported.{run_within}
@@ -41,11 +43,12 @@ first_two (Err refusal) b later h = h
 
 pub set_run_lem : (set : FinSet) (points : List Float) (L n : ℕ) → set_check set points L n ≡ Ok tt → Room L n
 unfolding set_check
-set_run_lem set points L n h = run_within L n (first_two _ _ _ h)
+set_run_lem set points L n h = run_within L n (first_two (limit_check L) (scratch_check L n) (first_of (own_checks set points)) h)
 
 pub area_run_lem : (planform : Planform) (points : List Float) (L n : ℕ) → area_check planform points L n ≡ Ok tt → Room L n
 unfolding area_check
-area_run_lem planform points L n h = run_within L n (first_two _ _ _ h)
+area_run_lem planform points L n h =
+    run_within L n (first_two (limit_check L) (scratch_check L n) (first_of (planform_check planform points ∷ [])) h)
 
 pub run_of_lem : (integrand : Integrand) (points : List Float) (L : ℕ) (entry : List Float) (r : Integral) (exit : List Float)
     {strips : List Worked}

@@ -376,6 +376,7 @@ pub fn change_by_value(job: Job, density: Density) -> JobReply
 }
 
 // Runs every check before the strips but 2.
+#[tactic(auto, unfolding(crate::specs::Jobs::making_check))]
 fn check_making(set: FinSet, points: &[f64], limit: usize) -> Verdict
     ensures { result ≡ making_check set points.now limit }
 {
@@ -384,6 +385,7 @@ fn check_making(set: FinSet, points: &[f64], limit: usize) -> Verdict
 }
 
 // Makes a job: the answer is taken or the first refusal, with which the record has ended.
+#[tactic(auto, using(refusals::proofs::Given::is_answer), unfolding(crate::specs::Jobs::made_of))]
 pub fn make(set: FinSet, points: &[f64], limit: usize) -> JobReply
     ensures { IsReplied result (made_of set points.now limit) }
 {

@@ -5,10 +5,10 @@ use mathlib.Core.Bool.{not}
 use Rattle.lent_engines.proofs.Calls.{changes_not, changes}
 use Rattle.lent_engines.proofs.change_density.Goals as goal
 
-pub returns-then-is_refused : goal.returns-then-is_refused
-returns-then-is_refused c = changes_not _ _ _ c.read_screens-screens.ensures _ _ c.read_at-job.ensures _ c.place_of-place.ensures.0 _ _
+pub returns-then-is_err : goal.returns-then-is_err
+returns-then-is_err c = changes_not _ _ _ c.read_screens-screens.ensures _ _ c.read_at-job.ensures _ c.place_of-place.ensures.0 _ _
     c.change_at-s.ensures.is
-    (ap not (sym c.is_refused.ensures ∙ c.if-is_refused.true))
+    (ap not (sym c.is_err.ensures.value ∙ c.if-is_err.true))
 
 pub write_at-requires : goal.write_at-requires
 write_at-requires c =
@@ -17,4 +17,4 @@ write_at-requires c =
 pub returns : goal.returns
 returns c = changes _ _ _ c.read_screens-screens.ensures _ _ c.read_at-job.ensures _ c.place_of-place.ensures.0 _ _
     c.change_at-s.ensures.is
-    (ap not (sym c.is_refused.ensures ∙ c.if-is_refused.false)) _ _ c.write_at.ensures
+    (ap not (sym c.is_err.ensures.value ∙ c.if-is_err.false)) _ _ c.write_at.ensures
