@@ -96,9 +96,7 @@ fn check_edges(points: &[f64]) -> Verdict
 {
     let n = points.len() / 2;
     for i in 0..n {
-        if let Err(refusal) = check_edge(points, i) {
-            return Err(refusal);
-        }
+        check_edge(points, i)?;
     }
     Ok(())
 }
@@ -118,9 +116,7 @@ fn check_points(points: &[f64]) -> Verdict
 {
     let n = points.len() / 2;
     for i in 0..n {
-        if let Err(refusal) = check_point(points, i) {
-            return Err(refusal);
-        }
+        check_point(points, i)?;
     }
     Ok(())
 }

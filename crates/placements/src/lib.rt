@@ -149,9 +149,7 @@ fn check_places(places: &[f64], rolled: bool) -> Verdict
     let n = count_places(places, rolled);
     for k in 0..n {
         let place = place_at(places, rolled, k);
-        if let Err(refusal) = place.check() {
-            return Err(refusal);
-        }
+        place.check()?;
     }
     Ok(())
 }
