@@ -44,8 +44,8 @@ fn reply_next(
     s: Step,
     chunk: &[u8],
 ) -> Step
-    requires { Lends buffer.old s.state chunk.now × Counted (most_read + s.taken) s.handed × (s.taken < length chunk.now)
-        × Ready replying.old }
+    requires { Lends buffer.old s.state chunk.now × Counted (most_read + s.taken) s.handed
+        × (s.taken < length chunk.now) × Ready replying.old }
     ensures { Steps (place_in buffer.old s.state replying.old) (place_in buffer.new result.state replying.new) s result
         chunk.now replying.new.out }
 {

@@ -107,7 +107,8 @@ module _ {planform : Option Planform} {points : List Float} {x height : Float} {
   drill_refused h = let none = lt-leb 4 (length counts) h in record { returned = rw none; counted = rw none }
 
   -- `read` is the planform as the code has it; v, place and nearest are the answer's parts
-  pub drill_written : 4 ≤ length counts → {read : Option Planform} {a : Result Place Refusal} {v : Verdict} {place nearest r : ℕ} {counts' : List ℕ} →
+  pub drill_written : 4 ≤ length counts → {read : Option Planform} {a : Result Place Refusal} {v : Verdict}
+      {place nearest r : ℕ} {counts' : List ℕ} →
       read ≡ planform → a ≡ numbered_drill read points x height → v ≡ verdict_of a → place ≡ place_number a → nearest ≡ nearest_of a →
       counts' ≡ with_counts counts v place nearest → r ≡ number_in v → DrillCall planform points x height counts r counts'
   drill_written h same e f g k c n =

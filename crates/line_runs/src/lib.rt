@@ -3,6 +3,7 @@
 //
 // What the read and each write gave is carried along, and the contracts say by these values how the run goes on. Only
 // the methods of `Answers` write: each hands the first bytes of a buffer to write, and its contract says what they are.
+// The counts hold after a write that failed too, so they stand beside a flag and in no Result.
 #![tactic(auto)]
 
 ghost use Rattle.std.specs.Prelude.{◌≡◌, ℕ, ◌+◌, ◌*◌, ◌<◌, ◌≤◌, List, Bool, length};

@@ -1,10 +1,10 @@
 // Lines shown one after another, each as one text with its number: the loop of the programs `readable` and `explain`.
 // It ends on every input, whatever its bytes.
 //
-// The run over the input is that of `line_runs`. It stops at the first write that does not take a whole text. After a read that fails it shows no part of a line. In
-// both cases it says so on standard error. What the read and each write gave is carried along, and the contracts say by
-// these values how it goes on. `show_line` alone writes texts: it hands to write the first bytes of `out`, of which its
-// contract says what they are.
+// The run over the input is that of `line_runs`. It stops at the first write that does not take a whole text. After a
+// read that fails it shows no part of a line. In both cases it says so on standard error. What the read and each write
+// gave is carried along, and the contracts say by these values how it goes on. `show_line` alone writes texts: it hands
+// to write the first bytes of `out`, of which its contract says what they are.
 #![tactic(auto)]
 
 ghost use Rattle.std.specs.Prelude.{◌≡◌, ◌+◌, ◌*◌, ◌<◌, ◌≤◌, length};
