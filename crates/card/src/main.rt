@@ -150,13 +150,6 @@ fn run(replying: &mut Replying, rt: HostRuntime, buffer: &mut [u8], chunk: &mut 
     line_runs::run(replying, rt, buffer, chunk)
 }
 
-// Writes what is told on standard error.
-fn write_told(rt: HostRuntime, out: &[u8], told: usize)
-    requires { told ≤ length out.now }
-{
-    let _ = rt.stderr().write_all(&out[..told]);
-}
-
 // Runs the program without arguments, and tells on standard error what there is to tell.
 fn answer_input(rt: HostRuntime) {
     let mut buffer = io::buffer();
@@ -168,7 +161,7 @@ fn answer_input(rt: HostRuntime) {
         out: io::large_buffer(),
     };
     let end = run(&mut replying, rt, &mut buffer, &mut chunk);
-    write_told(rt, &replying.out, end.told);
+    line_runs::write_told(rt, &replying.out, end.told);
 }
 
 fn write_help(rt: HostRuntime) {

@@ -194,13 +194,6 @@ fn run(showing: &mut Showing, rt: HostRuntime, buffer: &mut [u8], chunk: &mut [u
     line_runs::run(showing, rt, buffer, chunk)
 }
 
-// Writes what is told on standard error.
-fn write_told(rt: HostRuntime, out: &[u8], told: usize)
-    requires { told ≤ length out.now }
-{
-    let _ = rt.stderr().write_all(&out[..told]);
-}
-
 // Runs the whole program, where it was given no arguments.
 pub fn show_input(rt: HostRuntime, maker: Maker) {
     let mut buffer = io::buffer();
@@ -211,5 +204,5 @@ pub fn show_input(rt: HostRuntime, maker: Maker) {
         out: [0; 1050],
     };
     let end = run(&mut showing, rt, &mut buffer, &mut chunk);
-    write_told(rt, &showing.out, end.told);
+    line_runs::write_told(rt, &showing.out, end.told);
 }
