@@ -1,8 +1,9 @@
 // The card program: it reads lines from standard input and prints a reply to each (document 01, "The card program").
 //
-// It only reads, feeds and writes: the crate `inputs` says what is replied. It keeps one scratch and one engine from
-// its first line to its last. The replies to what was read are written before it reads on. A read that fails, or a
-// reply that nobody takes, ends it without a reply to the line that had begun, and with a line on standard error.
+// It only reads, feeds and writes, in a run of `line_runs`: the crate `inputs` says what is replied. It keeps one
+// scratch and one engine from its first line to its last. The replies to what was read are written before it reads on.
+// A read that fails, or a reply that nobody takes, ends it without a reply to the line that had begun, and with a line
+// on standard error.
 //
 // What the read and each write gave is carried along, and the contracts say by these values how the run goes on. Only
 // `reply_next` and `reply_last` write replies: each hands the first bytes of `out` to write, and its contract says what

@@ -1,4 +1,4 @@
-// Lines shown one after another, each as one text with its number: the loop of the programs `readable` and `explain`.
+// Lines shown one after another, each as one text with its number, for the programs `readable` and `explain`.
 // It ends on every input, whatever its bytes.
 //
 // The run over the input is that of `line_runs`. It stops at the first write that does not take a whole text. After a
