@@ -21,7 +21,7 @@ pub fn digit_value(b: u8) -> u64
 fn cap(n: u64) -> u64
     ensures { result ≡ capped n }
 {
-    if n < 1_000_000 { n } else { 1_000_000 }
+    n.min(1_000_000)
 }
 
 // Reads a word of any length as a count, and gives none where it is no count. A value above a million is given as a

@@ -1,10 +1,10 @@
 -- A part of a list that is written over, and the parts beside it. Assumes nothing.
-use mathlib.Core.Path.{◌≡◌, refl, sym, ap, ap₂, subst, ◌∙◌}
-use mathlib.Core.List.{List, [], ◌∷◌, ◌++◌, append_assoc}
-use Prim.Native.Nat.{ℕ, ◌+◌, ◌-◌, ◌≤◌, ◌<◌}
+use mathlib.Core.Path.{◌≡◌, sym, ap, ◌∙◌}
+use mathlib.Core.List.{List, ◌++◌, append_assoc}
+use Prim.Native.Nat.{ℕ, ◌+◌, ◌-◌, ◌≤◌}
 use native.Mathlib.Omega.{arith}
-use lib.ListN.{length, take, drop, get_or, length-take, length-drop, length-append, take-append-drop}
-use lib.Seq.{take-append-le, drop-append-le, take_at, drop_at, drop-drop, take-add, length-take-le}
+use lib.ListN.{length, take, drop, length-drop, length-append, take-append-drop}
+use lib.Seq.{take-append-le, take_at, drop_at, drop-drop, take-add, length-take-le}
 use Rattle.lent_engines.specs.Memory.{put}
 
 module _ {A : Type 0} where

@@ -1,16 +1,15 @@
 -- The screens at the start of the counts: what is written is what is read. Assumes nothing.
-use mathlib.Core.Path.{◌≡◌, refl, sym, ap, ◌∙◌}
+use mathlib.Core.Path.{◌≡◌, refl, ap, ◌∙◌}
 use mathlib.Core.Bool.{Bool, true, false, not}
 use mathlib.Core.List.{List, [], ◌∷◌, ◌++◌}
-use Prim.Native.Nat.{ℕ, ◌+◌, ◌≤◌, ◌<◌}
-use native.Mathlib.Omega.{arith}
+use Prim.Native.Nat.{ℕ, ◌≤◌}
 use lib.Dec.{eqb}
-use lib.ListN.{length, get_or, drop, length-map}
+use lib.ListN.{length, get_or, drop}
 use lib.Seq.{sets, sets-eq}
 use mir.Val.{Val}
 use denote.Laws.{Is}
 use denote.Struct.Laws as LL
-use Rattle.lent_jobs.specs.Memory.{count_at, flag}
+use Rattle.lent_jobs.specs.Memory.{flag}
 use Rattle.engines.specs.declared.Screens.{Screens}
 use Rattle.engines.specs.contracts.Screens as S
 use Rattle.engines.proofs.Screens.TheLaws as S'

@@ -2,10 +2,8 @@
 use mathlib.Core.Path.{◌≡◌, refl, ap, ◌∙◌}
 use mathlib.Core.List.{List, ◌++◌}
 use Prim.Native.Nat.{ℕ}
-use lib.ListN.{length, drop, replicate}
-use lib.Seq.{paste}
+use lib.ListN.{drop, replicate}
 use lib.Ieee.{Float}
-use Rattle.lent_jobs.proofs.Copying.{pasted_first}
 use Rattle.lent_engines.specs.Memory.{engine_counts_length, screens_in, no_screens, engine_in}
 use Rattle.lent_engines.specs.Lent.{Clears}
 use Rattle.lent_engines.proofs.Engines.{screens_of}
@@ -22,10 +20,10 @@ none_in_cleared : (rest : List ℕ) → screens_in (replicate engine_counts_leng
 unfolding screens_in
 none_in_cleared rest = refl
 
-pub cleared : (counts counts' zeros : List ℕ) → zeros ≡ replicate engine_counts_length 0 → counts' ≡ paste counts 0 zeros (length zeros)
-    → Clears counts counts'
-cleared counts counts' zeros z e =
-    let are : counts' ≡ replicate engine_counts_length 0 ++ drop engine_counts_length counts =
-    e ∙ ap (λ (l : List ℕ). paste counts 0 l (length l)) z ∙ pasted_first counts (replicate engine_counts_length 0)
+pub cleared : (counts filled : List ℕ) → filled ≡ replicate engine_counts_length 0
+    → Clears counts (filled ++ drop engine_counts_length counts)
+cleared counts filled e =
+    let are : filled ++ drop engine_counts_length counts ≡ replicate engine_counts_length 0 ++ drop engine_counts_length counts =
+    ap (λ (l : List ℕ). l ++ drop engine_counts_length counts) e
     in
     record { counts_are = are; held = ap screens_in are ∙ none_in_cleared (drop engine_counts_length counts) }

@@ -1,6 +1,6 @@
 -- The engine in lent memory (document 02, Paper 10), as C, Rust and the card program lend it: a list of numbers and a
 -- list of counts. Lists of zeros hold an engine with no job, none served.
-use Rattle.std.specs.Prelude.{Bool, false, not, List, [], ◌∷◌, ◌++◌, ℕ, ◌+◌, ◌*◌, eqb, take, drop, get_or, Float}
+use Rattle.std.specs.Prelude.{false, not, List, [], ◌∷◌, ◌++◌, ℕ, ◌+◌, ◌*◌, eqb, take, drop, get_or, Float}
 use Rattle.jobs.specs.declared.Job.{Job}
 use Rattle.lent_jobs.specs.Memory.{job_numbers_length, job_counts_length, count_at, flag, job_in}
 use Rattle.engines.specs.declared.Screens.{Screens}

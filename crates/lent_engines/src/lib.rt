@@ -90,8 +90,7 @@ pub fn clear(counts: &mut [usize])
     requires { engine_counts_length ≤ length counts.old }
     ensures { Clears counts.old counts.new }
 {
-    let zeros = [0; ENGINE_COUNTS];
-    lent_jobs::write_counts(counts, &zeros[..ENGINE_COUNTS]);
+    counts[..ENGINE_COUNTS].fill(0);
 }
 
 // Returns the job at a place, 0 to 7.
