@@ -151,7 +151,8 @@ module _ (w : List ℕ) (p r : Read) (shape shape' : List ℕ) where
         of_figures = subst (λ (k : Option Float). Grown figures p.figures (by_kind k (capped_count (count_of w)) (λ x. x ∷ []) (λ n. []) [])
             figures' r.figures) e h.of_figures;
         of_counts = subst (λ (k : Option Float). Grown counts p.counts
-            (by_kind k (capped_count (count_of w)) (λ x. []) (λ n. n ∷ []) []) counts r.counts) e (unchanged counts p.counts r.counts h.same_counts);
+            (by_kind k (capped_count (count_of w)) (λ x. []) (λ n. n ∷ []) []) counts r.counts)
+            e (unchanged counts p.counts r.counts h.same_counts);
       }
 
   pub word_other : (figures : List Float) (counts counts' : List ℕ) → None ≡ figure_of w → PutsOther w p r shape shape' counts counts'

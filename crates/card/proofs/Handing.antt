@@ -39,7 +39,8 @@ rest_all chunk at = take_all (length chunk - at) (drop at chunk) (simp length-dr
 -- a call of `feed`, with its replies written
 module _ {buffer after : List ℕ} (m n : Replying) (chunk : List ℕ) (s : Step) {out written : List ℕ} {f : Fed} (h : s.taken < length chunk)
     (o : reply_bytes ≤ length out)
-    (fed : Feeds (place_in buffer s.state (lent_at m)) (place_in after f.state (lent_at n)) (take (length chunk - s.taken) (drop s.taken chunk)) out 0 written f) where
+    (fed : Feeds (place_in buffer s.state (lent_at m)) (place_in after f.state (lent_at n))
+    (take (length chunk - s.taken) (drop s.taken chunk)) out 0 written f) where
   rest_length : length (take (length chunk - s.taken) (drop s.taken chunk)) ≡ length chunk - s.taken
   rest_length = simp (length-take, length-drop) (omega arith)
 

@@ -1,8 +1,9 @@
 // The card program: it reads lines from standard input and prints a reply to each (document 01, "The card program").
 //
-// It only reads, feeds and writes: the crate `inputs` says what is replied. It keeps one scratch and one engine from
-// its first line to its last. The replies to what was read are written before it reads on. A read that fails, or a
-// reply that nobody takes, ends it without a reply to the line that had begun, and with a line on standard error.
+// It only reads, feeds and writes, in a run of `line_runs`: the crate `inputs` says what is replied. It keeps one
+// scratch and one engine from its first line to its last. The replies to what was read are written before it reads on.
+// A read that fails, or a reply that nobody takes, ends it without a reply to the line that had begun, and with a line
+// on standard error.
 //
 // What the read and each write gave is carried along, and the contracts say by these values how the run goes on. Only
 // `reply_next` and `reply_last` write replies: each hands the first bytes of `out` to write, and its contract says what
@@ -44,8 +45,8 @@ fn reply_next(
     s: Step,
     chunk: &[u8],
 ) -> Step
-    requires { Lends buffer.old s.state chunk.now × Counted (most_read + s.taken) s.handed × (s.taken < length chunk.now)
-        × Ready replying.old }
+    requires { Lends buffer.old s.state chunk.now × Counted (most_read + s.taken) s.handed
+        × (s.taken < length chunk.now) × Ready replying.old }
     ensures { Steps (place_in buffer.old s.state replying.old) (place_in buffer.new result.state replying.new) s result
         chunk.now replying.new.out }
 {
@@ -150,13 +151,6 @@ fn run(replying: &mut Replying, rt: HostRuntime, buffer: &mut [u8], chunk: &mut 
     line_runs::run(replying, rt, buffer, chunk)
 }
 
-// Writes what is told on standard error.
-fn write_told(rt: HostRuntime, out: &[u8], told: usize)
-    requires { told ≤ length out.now }
-{
-    let _ = rt.stderr().write_all(&out[..told]);
-}
-
 // Runs the program without arguments, and tells on standard error what there is to tell.
 fn answer_input(rt: HostRuntime) {
     let mut buffer = io::buffer();
@@ -168,7 +162,7 @@ fn answer_input(rt: HostRuntime) {
         out: io::large_buffer(),
     };
     let end = run(&mut replying, rt, &mut buffer, &mut chunk);
-    write_told(rt, &replying.out, end.told);
+    line_runs::write_told(rt, &replying.out, end.told);
 }
 
 fn write_help(rt: HostRuntime) {

@@ -31,7 +31,8 @@ use Rattle.outlines.specs.Outlines.{planform_check}
 use Rattle.steps.specs.Parts.{IsLength}
 use Rattle.steps.specs.Steps.{exact_of, steps_of}
 use Rattle.drill.specs.declared.Place.{Place}
-use Rattle.drill.specs.Drill.{corners_of, has_corners, are_whole, place_of, drill_check, unless_refused, drill_of}
+use Rattle.drill.specs.Drill.{corners_of, has_corners, are_whole, place_of, drill_check, drill_of}
+use Rattle.refusals.specs.Results.{unless_refused}
 use Rattle.drill.specs.InSteps.{AreLengths, in_steps}
 use Rattle.drill.proofs.Reach.{one_more}
 

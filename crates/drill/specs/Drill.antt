@@ -4,6 +4,7 @@ use Rattle.floats.specs.Operations.{every}
 use Rattle.refusals.specs.declared.Refusal.{Refusal}
 use Rattle.refusals.specs.declared.Refusal.TheVariants.{NoCorners, NotWholeSteps}
 use Rattle.refusals.specs.Verdict.{Verdict}
+use Rattle.refusals.specs.Results.{unless_refused}
 use Rattle.refusals.specs.Order.{refuse_unless, first_of}
 use Rattle.planforms.specs.declared.Planform.{Planform}
 use Rattle.planforms.specs.declared.Planform.TheVariants.{Trapezoid, Ellipse, Outline}
@@ -57,22 +58,13 @@ drill_check planform points x height =
     ∷ refuse_unless (are_whole (exact_of x ∷ exact_of height ∷ corners_of planform points)) NotWholeSteps
     ∷ [])
 
--- a place, or the refusal of the check before it
-abbrev pub unless_refused : Verdict → Place → Result Place Refusal
-unless_refused (Ok _) place = Ok place
-unless_refused (Err r) place = Err r
-
 -- where a point lies beside a planform, once it passed the checks
 unfoldable pub drill_of : Planform → List Float → Float → Float → Result Place Refusal
 drill_of planform points x height =
     unless_refused (drill_check planform points x height)
     (place_of (map steps_of (corners_of planform points)) (steps_of (exact_of x)) (steps_of (exact_of height)))
 
--- ---- an answer as a verdict and two numbers, as the library hands it out
-
-abbrev pub verdict_of : Result Place Refusal → Verdict
-verdict_of (Ok place) = Ok tt
-verdict_of (Err r) = Err r
+-- ---- an answer as two numbers, as the library hands it out
 
 -- an answer's place as a number: 1 inside, 2 on the edge, 3 outside; 0 where the point is turned away
 abbrev pub place_number : Result Place Refusal → ℕ

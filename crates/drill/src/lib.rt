@@ -6,7 +6,7 @@
 #![tactic(auto)]
 
 ghost use Rattle.std.specs.Prelude.{◌≡◌, ◌^◌, ◌<◌, ◌≤◌, true, nat_abs, ◌+ℤ◌, length, take, [], ◌∷◌, map};
-ghost use Rattle.refusals.specs.Given.{IsAnswer};
+ghost use Rattle.refusals.specs.Results.{IsResult};
 ghost use Rattle.limits.specs.Limits.{outline_numbers};
 ghost use Rattle.planforms.specs.Planforms.{pair_count};
 ghost use Rattle.polygons.specs.Polygons.{corner_count};
@@ -14,7 +14,7 @@ ghost use Rattle.polygons.specs.Bounds.{InReach};
 ghost use Rattle.steps.specs.Parts.{IsLength};
 ghost use Rattle.steps.specs.Steps.{exact_of, is_whole, steps_of};
 ghost use Rattle.planforms.specs.declared.Planform.TheVariants.{Trapezoid};
-ghost use Rattle.drill.specs.Drill.{corners_of, place_of, are_whole, drill_of, verdict_of, place_number, nearest_of};
+ghost use Rattle.drill.specs.Drill.{corners_of, place_of, are_whole, drill_of, place_number, nearest_of};
 ghost use Rattle.drill.specs.InSteps.{AreLengths, in_steps};
 
 use limits::check_length;
@@ -130,7 +130,7 @@ fn drill_outline(points: &[f64], x_m: f64, height_m: f64) -> Result<Place, Refus
 // Returns where a point lies beside a planform, and the nearest corner, or why there is no answer.
 #[tactic(auto, using(refusals::proofs::Given::is_answer), unfolding(crate::specs::Drill::drill_of, crate::specs::Drill::drill_check))]
 pub fn drill(planform: Planform, points: &[f64], x_m: f64, height_m: f64) -> Result<Place, Refusal>
-    ensures { IsAnswer verdict_of result (drill_of planform points.now x_m height_m) }
+    ensures { IsResult result (drill_of planform points.now x_m height_m) }
 {
     outlines::check_planform(planform, points)?;
     check_length(limits::DRILL_X, x_m)?;
@@ -144,16 +144,6 @@ pub fn drill(planform: Planform, points: &[f64], x_m: f64, height_m: f64) -> Res
         } => drill_trapezoid(root_chord_m, tip_chord_m, span_m, sweep_m, x_m, height_m),
         Planform::Ellipse { .. } => Err(Refusal::NoCorners),
         Planform::Outline => drill_outline(points, x_m, height_m),
-    }
-}
-
-// Returns whether the point is turned away, and why.
-pub fn verdict(answer: Result<Place, Refusal>) -> Verdict
-    ensures { result ≡ verdict_of answer }
-{
-    match answer {
-        Ok(_) => Ok(()),
-        Err(refusal) => Err(refusal),
     }
 }
 

@@ -23,9 +23,8 @@ use Rattle.tubes.specs.Closing.{radius_told, closing_of}
 use Rattle.moments.specs.Moments.{moments_told}
 use Rattle.figures.specs.declared.Area.{Area}
 use Rattle.figures.specs.declared.Figures.{Figures}
-use Rattle.planform_chords.specs.PlanformChords.{verdict_of as chords_verdict}
 use Rattle.drill.specs.declared.Place.{Place}
-use Rattle.drill.specs.Drill.{verdict_of, place_number, nearest_of}
+use Rattle.drill.specs.Drill.{place_number, nearest_of}
 use Rattle.planforms.specs.declared.Planform.{Planform}
 use Rattle.fins.specs.declared.FinSet.{FinSet}
 use Rattle.requests.specs.Calls.{numbered_call, numbered_area, numbered_chords, numbered_drill, tensor_moments, body_verdict}
@@ -91,7 +90,7 @@ module _ {planform : Option Planform} {points : List Float} {h : Float} {ends : 
 
   pub chords_written : most_points ≤ length ends → 3 ≤ length counts
       → {read : Option Planform} {l : Result ℕ Refusal} {v : Verdict} {count r : ℕ} {ends' : List Float} {counts' : List ℕ} →
-      read ≡ planform → Does (numbered_chords read points h) l ends ends' → v ≡ chords_verdict l → count ≡ result_unwrap_or l 0 →
+      read ≡ planform → Does (numbered_chords read points h) l ends ends' → v ≡ verdict_in l → count ≡ result_unwrap_or l 0 →
       counts' ≡ with_count counts v count → r ≡ number_in v →
       ChordsCall planform points h ends counts r ends' counts'
   chords_written k j same d e f c n =
@@ -107,8 +106,9 @@ module _ {planform : Option Planform} {points : List Float} {x height : Float} {
   drill_refused h = let none = lt-leb 4 (length counts) h in record { returned = rw none; counted = rw none }
 
   -- `read` is the planform as the code has it; v, place and nearest are the answer's parts
-  pub drill_written : 4 ≤ length counts → {read : Option Planform} {a : Result Place Refusal} {v : Verdict} {place nearest r : ℕ} {counts' : List ℕ} →
-      read ≡ planform → a ≡ numbered_drill read points x height → v ≡ verdict_of a → place ≡ place_number a → nearest ≡ nearest_of a →
+  pub drill_written : 4 ≤ length counts → {read : Option Planform} {a : Result Place Refusal} {v : Verdict}
+      {place nearest r : ℕ} {counts' : List ℕ} →
+      read ≡ planform → a ≡ numbered_drill read points x height → v ≡ verdict_in a → place ≡ place_number a → nearest ≡ nearest_of a →
       counts' ≡ with_counts counts v place nearest → r ≡ number_in v → DrillCall planform points x height counts r counts'
   drill_written h same e f g k c n =
       let fits = le-leb 4 (length counts) h in

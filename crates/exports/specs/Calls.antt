@@ -7,10 +7,9 @@ use Rattle.refusals.specs.declared.Refusal.{Refusal}
 use Rattle.refusals.specs.declared.Refusal.TheVariants.{NoForm}
 use Rattle.refusals.specs.Results.{verdict_in}
 use Rattle.refusals.specs.Refusals.{number_of}
-use Rattle.planform_chords.specs.PlanformChords.{verdict_of as chords_verdict}
 use Rattle.drill.specs.declared.Place.{Place}
 use Rattle.planforms.specs.declared.Planform.{Planform}
-use Rattle.drill.specs.Drill.{verdict_of, place_number, nearest_of}
+use Rattle.drill.specs.Drill.{place_number, nearest_of}
 use Rattle.fins.specs.declared.FinSet.{FinSet}
 use Rattle.bodies.specs.Layout.{body_numbers}
 use Rattle.bodies.specs.declared.Body.{Body}
@@ -69,12 +68,12 @@ pub record AreaCall (planform : Option Planform) (points : List Float) (L : ℕ)
 -- ends each
 
 abbrev pub chord_counts : Result ℕ Refusal → List ℕ → List ℕ
-chord_counts chords counts = with_count counts (chords_verdict chords) (result_unwrap_or chords 0)
+chord_counts chords counts = with_count counts (verdict_in chords) (result_unwrap_or chords 0)
 
 pub record ChordsCall (planform : Option Planform) (points : List Float) (h : Float) (ends : List Float)
     (counts : List ℕ) (r : ℕ) (ends' : List Float) (counts' : List ℕ) : Type 0 where
   pub returned :
-      r ≡ cond (room most_points ends 3 counts) (number_in (chords_verdict (numbered_chords planform points h).answer))
+      r ≡ cond (room most_points ends 3 counts) (number_in (verdict_in (numbered_chords planform points h).answer))
       (number_of NoForm)
   pub listed : ends' ≡ cond (room most_points ends 3 counts) ((numbered_chords planform points h).leaves ends) ends
   pub counted :
@@ -85,12 +84,12 @@ pub record ChordsCall (planform : Option Planform) (points : List Float) (h : Fl
 -- and the nearest corner's position
 
 abbrev pub drill_counts : Result Place Refusal → List ℕ → List ℕ
-drill_counts a counts = with_counts counts (verdict_of a) (place_number a) (nearest_of a)
+drill_counts a counts = with_counts counts (verdict_in a) (place_number a) (nearest_of a)
 
 pub record DrillCall (planform : Option Planform) (points : List Float) (x height : Float) (counts : List ℕ) (r : ℕ)
     (counts' : List ℕ) : Type 0 where
   pub returned :
-      r ≡ cond (leb 4 (length counts)) (number_in (verdict_of (numbered_drill planform points x height)))
+      r ≡ cond (leb 4 (length counts)) (number_in (verdict_in (numbered_drill planform points x height)))
       (number_of NoForm)
   pub counted :
       counts' ≡ cond (leb 4 (length counts)) (drill_counts (numbered_drill planform points x height) counts) counts

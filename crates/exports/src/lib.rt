@@ -157,7 +157,7 @@ pub extern "C" fn delvouzh_chords_at(
     }
     let asked = planforms::listed_planform(planform, lengths);
     let found = requests::listed_chords(asked, points, height_m, ends);
-    let verdict = planform_chords::verdict(found);
+    let verdict = refusals::verdict_in(&found);
     refusals::write_count(counts, verdict, found.unwrap_or(0));
     refusals::verdict_number(verdict)
 }
@@ -181,7 +181,7 @@ pub extern "C" fn delvouzh_drill(
     }
     let asked = planforms::listed_planform(planform, lengths);
     let found = requests::drilled(asked, points, x_m, height_m);
-    let verdict = drill::verdict(found);
+    let verdict = refusals::verdict_in(&found);
     refusals::write_counts(
         counts,
         verdict,

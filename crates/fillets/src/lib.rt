@@ -46,6 +46,7 @@ pub fn figures_of(fillet: Fillet) -> [f64; FILLET_FIGURES]
 }
 
 // Returns the fillet of a number, 0 for none or else its density's, and of these figures.
+// Both are needed, and a TryFrom takes one value.
 pub fn fillet_of(number: usize, figures: [f64; FILLET_FIGURES]) -> Option<Fillet>
     ensures { result ≡ fillet_of number figures }
 {

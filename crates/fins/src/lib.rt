@@ -78,6 +78,7 @@ fn tab_figures(tab: Tab) -> [f64; TAB_FIGURES]
 }
 
 // Returns the tab of a number and figures; any number but 0 and 1 is no tab's.
+// Both are needed, and a TryFrom takes one value.
 #[tactic(auto, unfolding(crate::specs::Numbered::tab_of))]
 pub fn tab_of(number: usize, figures: [f64; TAB_FIGURES]) -> Option<Tab>
     ensures { result ≡ tab_of number figures }

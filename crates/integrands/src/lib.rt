@@ -21,7 +21,8 @@ use chords::Chords;
 use planforms::Planform;
 use sections::Section;
 
-// What is summed over the chords. Thickness and body radius are divided by the scale.
+// What is summed over the chords. Thickness and body radius are divided by the scale. An area is a sum of its own and
+// no plate left out, so this is no Option.
 #[derive(Clone, Copy)]
 pub enum Kind {
     Area,

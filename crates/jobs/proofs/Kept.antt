@@ -43,7 +43,8 @@ all_kept points few =
 pub outline_few : (points : List Float) → outline_check points ≡ Ok tt → length points ≤ outline_numbers
 outline_few points h =
     let n = pair_count points in
-    let pairs = both_true (eqb (length points % 2) 0 && leb 3 n) (leb n most_points) (holds (are_pairs points) _ (outline_accepted points h).pairs) in
+    let pairs = both_true (eqb (length points % 2) 0 && leb 3 n) (leb n most_points)
+    (holds (are_pairs points) _ (outline_accepted points h).pairs) in
     let whole = eqb-true (length points % 2) 0 (both_true (eqb (length points % 2) 0) (leb 3 n) pairs.0).0 in
     let most = leb-true n most_points pairs.1 in
     omega (arith, whole, most)

@@ -30,7 +30,8 @@ pub struct Points {
 }
 
 // A job: the set, its own copy of the outline and L; which strip is next, by the place of its lower end among all
-// heights; the totals over the strips worked; and, once it has ended, its answer.
+// heights; the totals over the strips worked; and, once it has ended, its answer. Lent memory has the places of an
+// answer before that too, so this is no Option.
 #[derive(Clone, Copy)]
 pub struct Job {
     pub set: FinSet,

@@ -71,7 +71,8 @@ module _ {Memory : Type 0} (Answered : Memory → List (List ℕ) → List ℕ �
       pub answers : Answered before (cond (at_end r.turn.got) (lines_of taken) (lines_within [] taken)) text after
       -- at the input's end there is no rest
       pub all : at_end r.turn.got ≡ true → rest ≡ []
-      -- the run ends where a read brings nothing or a write does not take all; else only once `most_read` bytes are read
+      -- the run ends where a read brings nothing or a write does not take all; else only once `most_read` bytes are
+      -- read
       pub stops : 0 < brought r.turn.got → r.all ≡ true → most_read ≤ r.turn.read
       pub tells : take r.told out ≡ told before (at_end r.turn.got && r.all)
       pub room : r.told ≤ length out

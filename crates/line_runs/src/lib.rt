@@ -3,6 +3,7 @@
 //
 // What the read and each write gave is carried along, and the contracts say by these values how the run goes on. Only
 // the methods of `Answers` write: each hands the first bytes of a buffer to write, and its contract says what they are.
+// The counts hold after a write that failed too, so they stand beside a flag and in no Result.
 #![tactic(auto)]
 
 ghost use Rattle.std.specs.Prelude.{◌≡◌, ℕ, ◌+◌, ◌*◌, ◌<◌, ◌≤◌, List, Bool, length};
@@ -14,6 +15,7 @@ ghost use Rattle.line_runs.specs.Runs.{no_line, Lends, Steps, TakesChunk, Turns,
 
 use input_lines::State;
 use reads::MOST_READ;
+use std::io::Write;
 
 // Where a run stands in a chunk: the line that has begun, how many bytes of the chunk are taken, how many bytes were
 // handed to write since the run began, how many of them with the last write, and whether that took them all.
@@ -209,4 +211,11 @@ pub fn run<T: Answers>(taker: &mut T, rt: HostRuntime, buffer: &mut [u8], chunk:
         turn = take_turn(taker, rt, buffer, turn, chunk);
     }
     end_run(taker, rt, buffer, turn)
+}
+
+// Writes what is told on standard error.
+pub fn write_told(rt: HostRuntime, out: &[u8], told: usize)
+    requires { told ≤ length out.now }
+{
+    let _ = rt.stderr().write_all(&out[..told]);
 }

@@ -37,6 +37,7 @@ pub fn figure_of(density: Density) -> f64
 }
 
 // Returns the density of a kind's number and a figure; any number but 1, 2 and 3 is no kind's.
+// Both are needed, and a TryFrom takes one value.
 #[tactic(auto, unfolding(crate::specs::Numbered::numbered_density))]
 pub fn numbered_density(number: usize, density: f64) -> Option<Density>
     ensures { result ≡ numbered_density number density }

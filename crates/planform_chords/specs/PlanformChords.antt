@@ -3,7 +3,7 @@ use Rattle.std.specs.Prelude.{◌≡◌, List, [], ◌∷◌, ℕ, length, Float
 use Rattle.sorting.specs.Sorted.{over}
 use Rattle.refusals.specs.Verdict.{Verdict}
 use Rattle.refusals.specs.declared.Refusal.{Refusal}
-use Rattle.refusals.specs.Given.{IsAnswer}
+use Rattle.refusals.specs.Results.{IsResult}
 use Rattle.refusals.specs.Calls.{CallOf, leaves_alone, by_verdict}
 use Rattle.planforms.specs.declared.Planform.{Planform}
 use Rattle.outlines.specs.Outlines.{planform_check}
@@ -34,11 +34,6 @@ chords_by verdict planform points h =
 unfoldable pub chords_call : Planform → List Float → Float → CallOf (Result ℕ Refusal)
 chords_call planform points h = chords_by (planform_check planform points) planform points h
 
--- an answer as a verdict
-abbrev pub verdict_of : Result ℕ Refusal → Verdict
-verdict_of (Ok count) = Ok tt
-verdict_of (Err refusal) = Err refusal
-
 -- a call's answer is the definition's, with the number and values of its verdict
 abbrev pub IsChordList : Result ℕ Refusal → Result ℕ Refusal → Type 0
-IsChordList r definition = IsAnswer verdict_of r definition
+IsChordList r definition = IsResult r definition

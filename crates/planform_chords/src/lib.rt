@@ -7,7 +7,7 @@ ghost use Rattle.std.specs.Prelude.{◌≡◌, ◌≤◌, length, take};
 ghost use Rattle.sorting.specs.Sorted.{over};
 ghost use Rattle.limits.specs.Limits.{most_points};
 ghost use Rattle.chords.specs.Chords.{outline_crossings, ends_of, paired, chords_at};
-ghost use Rattle.planform_chords.specs.PlanformChords.{Listed, chords_call, verdict_of, IsChordList};
+ghost use Rattle.planform_chords.specs.PlanformChords.{Listed, chords_call, IsChordList};
 
 use chords::Chords;
 use planforms::Planform;
@@ -32,16 +32,6 @@ pub fn chords_at(
     outlines::check_planform(planform, points)?;
     let found = chords_found(planform, points, h);
     Ok(write_chords(found, points, h, ends))
-}
-
-// Returns whether the planform of some chords is refused, and why.
-pub fn verdict(chords: Result<usize, Refusal>) -> Verdict
-    ensures { result ≡ verdict_of chords }
-{
-    match chords {
-        Ok(_) => Ok(()),
-        Err(refusal) => Err(refusal),
-    }
 }
 
 // Returns the chords of any planform; an outline's crossings are always listed. `chords::chords_at`, which finds the

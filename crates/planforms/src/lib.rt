@@ -61,6 +61,7 @@ pub fn lengths_of(planform: Planform) -> [f64; LENGTHS]
 }
 
 // Returns the planform of a kind's number and lengths; any number but 1, 2 and 3 is no kind's.
+// Both are needed, and a TryFrom takes one value.
 #[tactic(auto, unfolding(crate::specs::Numbered::planform_of))]
 pub fn planform_of(number: usize, lengths: [f64; LENGTHS]) -> Option<Planform>
     ensures { result ≡ planform_of number lengths }

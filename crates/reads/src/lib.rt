@@ -18,7 +18,8 @@ pub fn is_end(got: isize) -> bool
     got == 0
 }
 
-// Reads once into the chunk, and returns how many bytes that brought, 0 at the end of the input, or -1 where it failed.
+// Reads once into the chunk, and returns how many bytes that brought, 0 at the end of the input, or -1 where it failed:
+// a number, as the library's count and the definition `brought` take it.
 pub fn read<R: Read>(from: &mut R, chunk: &mut [u8]) -> isize
     ensures answers { Answers (length chunk.new) result }
     ensures bytes { Consumed (R.remaining from.old) (R.remaining from.new) result chunk.new }

@@ -18,7 +18,8 @@ blocks_append maker n (line ∷ l) k =
     let e : n + 1 + length l ≡ n + length (line ∷ l) = omega arith in
     ap (λ (t : List ℕ). made_by maker n line ++ t)
     (blocks_append maker (n + 1) l k ∙ ap (λ (i : ℕ). blocks_from maker (n + 1) l ++ blocks_from maker i k) e)
-    ∙ sym (append_assoc (made_by maker n line) (blocks_from maker (n + 1) l) (blocks_from maker (n + length (line ∷ l)) k))
+    ∙ sym (append_assoc (made_by maker n line) (blocks_from maker (n + 1) l)
+    (blocks_from maker (n + length (line ∷ l)) k))
 
 both : (maker : Maker) (m n o : ℕ) (l k : List (List ℕ)) (x y : List ℕ) → Shown maker m l x n → Shown maker n k y o
     → Shown maker m (l ++ k) (x ++ y) o

@@ -90,8 +90,8 @@ pub record StaysOver (before : Showing) (taken : ℕ) (after : Showing) : Type 0
   pub ended : after.ended ≤ before.ended + taken
   pub maker : after.maker ≡ before.maker
 
--- bytes of a chunk taken from where the program stands on: the first `written` bytes of `out` are the blocks of the lines
--- that ended in these bytes
+-- bytes of a chunk taken from where the program stands on: the first `written` bytes of `out` are the blocks of the
+-- lines that ended in these bytes
 abbrev pub Steps : Place Showing → Place Showing → Step → Step → List ℕ → List ℕ → Type 0
 Steps before after s r chunk out = StepsOver ShownOver StaysOver numbered_bytes before after s r chunk out
 

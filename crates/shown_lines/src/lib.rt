@@ -1,10 +1,10 @@
-// Lines shown one after another, each as one text with its number: the loop of the programs `readable` and `explain`.
+// Lines shown one after another, each as one text with its number, for the programs `readable` and `explain`.
 // It ends on every input, whatever its bytes.
 //
-// The run over the input is that of `line_runs`. It stops at the first write that does not take a whole text. After a read that fails it shows no part of a line. In
-// both cases it says so on standard error. What the read and each write gave is carried along, and the contracts say by
-// these values how it goes on. `show_line` alone writes texts: it hands to write the first bytes of `out`, of which its
-// contract says what they are.
+// The run over the input is that of `line_runs`. It stops at the first write that does not take a whole text. After a
+// read that fails it shows no part of a line. In both cases it says so on standard error. What the read and each write
+// gave is carried along, and the contracts say by these values how it goes on. `show_line` alone writes texts: it hands
+// to write the first bytes of `out`, of which its contract says what they are.
 #![tactic(auto)]
 
 ghost use Rattle.std.specs.Prelude.{◌≡◌, ◌+◌, ◌*◌, ◌<◌, ◌≤◌, length};
@@ -194,13 +194,6 @@ fn run(showing: &mut Showing, rt: HostRuntime, buffer: &mut [u8], chunk: &mut [u
     line_runs::run(showing, rt, buffer, chunk)
 }
 
-// Writes what is told on standard error.
-fn write_told(rt: HostRuntime, out: &[u8], told: usize)
-    requires { told ≤ length out.now }
-{
-    let _ = rt.stderr().write_all(&out[..told]);
-}
-
 // Runs the whole program, where it was given no arguments.
 pub fn show_input(rt: HostRuntime, maker: Maker) {
     let mut buffer = io::buffer();
@@ -211,5 +204,5 @@ pub fn show_input(rt: HostRuntime, maker: Maker) {
         out: [0; 1050],
     };
     let end = run(&mut showing, rt, &mut buffer, &mut chunk);
-    write_told(rt, &showing.out, end.told);
+    line_runs::write_told(rt, &showing.out, end.told);
 }

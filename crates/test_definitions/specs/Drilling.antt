@@ -4,7 +4,8 @@ use Rattle.std.specs.Prelude.{Bool, not, ◌&&◌, cond, List, [], ◌∷◌, ma
 use Rattle.std.specs.Float.Ieee.{add, sub, mul, div, of_bits, lt, le, eq, ne}
 use Rattle.floats.specs.Operations.{bits, every}
 use Rattle.floats.specs.Floats.{abs_of}
-use Rattle.refusals.specs.Order.{is_refused, first_refusal, first_from}
+use Rattle.refusals.specs.Results.{verdict_in}
+use Rattle.refusals.specs.Order.{first_from}
 use Rattle.planforms.specs.declared.Planform.{Planform}
 use Rattle.planforms.specs.declared.Planform.TheVariants.{Trapezoid, Ellipse, Outline}
 use Rattle.limits.specs.Limits.{length_within, length_check}
@@ -16,7 +17,7 @@ use Rattle.polygons.specs.Polygons.{is_same, is_crossed, lies_on, is_cut_rising,
 use Rattle.polygons.specs.Polygons.{is_on, cuts, some, count, is_on_edge, is_inside, nearer_of, nearest_to, nearest_corner}
 use Rattle.refusals.specs.declared.Refusal.{Refusal}
 use Rattle.drill.specs.declared.Place.{Place}
-use Rattle.drill.specs.Drill.{are_whole, place_of, drill_check, drill_of, verdict_of, place_number, nearest_of}
+use Rattle.drill.specs.Drill.{are_whole, place_of, drill_check, drill_of, place_number, nearest_of}
 use Rattle.test_definitions.specs.Rows.{accepted, refused}
 
 -- ---- polygons, over whole numbers
@@ -36,7 +37,7 @@ turned = polygon (4 ∷ 0 ∷ 0 ∷ 0 ∷ 0 ∷ 4 ∷ 4 ∷ 4 ∷ [])
 
 -- an answer's place, 1 inside, 2 on the edge, 3 outside, and the nearest corner's position
 abbrev lies : ℕ → ℕ → Result Place Refusal → Bool
-lies place nearest a = accepted (verdict_of a) && eqb (place_number a) place && eqb (nearest_of a) nearest
+lies place nearest a = accepted (verdict_in a) && eqb (place_number a) place && eqb (nearest_of a) nearest
 
 -- against asking inside before edge: the point (0, 2) has one edge cut to its right, and is on another
 abbrev pub edge_before_inside : Bool
@@ -127,7 +128,7 @@ outline_corners =
 -- against sweep + tip in f64: 64 m and a step with one last bit more is 64 m and a step, rounded, and exactly no whole
 -- number of steps
 abbrev pub exact_sum : Bool
-exact_sum = refused 25 [] (verdict_of (drilled (trapezoid one (suc one_step) one longest) [] 0 0))
+exact_sum = refused 25 [] (verdict_in (drilled (trapezoid one (suc one_step) one longest) [] 0 0))
 
 -- the order of the checks, each fault mended in turn and the next told: the planform's, x, height, 24, 25; then 25 of a
 -- corner alone
@@ -144,21 +145,21 @@ point_at k = drilled (planform_at k) [] (mended k 1 not_number (mended k 4 third
 
 abbrev pub drill_order : Bool
 drill_order =
-    refused 4 (3 ∷ []) (verdict_of (point_at 0))
-    && refused 4 (17 ∷ []) (verdict_of (point_at 1))
-    && refused 4 (18 ∷ []) (verdict_of (point_at 2))
-    && refused 24 [] (verdict_of (point_at 3))
-    && refused 25 [] (verdict_of (point_at 4))
-    && refused 25 [] (verdict_of (point_at 5))
+    refused 4 (3 ∷ []) (verdict_in (point_at 0))
+    && refused 4 (17 ∷ []) (verdict_in (point_at 1))
+    && refused 4 (18 ∷ []) (verdict_in (point_at 2))
+    && refused 24 [] (verdict_in (point_at 3))
+    && refused 25 [] (verdict_in (point_at 4))
+    && refused 25 [] (verdict_in (point_at 5))
     && lies 1 1 (point_at 6)
 
 -- an outline's own checks come before the point's
 abbrev pub outline_first : Bool
 outline_first =
-    refused 5 [] (verdict_of (drilled Outline (0 ∷ 0 ∷ one ∷ 0 ∷ []) not_number third))
+    refused 5 [] (verdict_in (drilled Outline (0 ∷ 0 ∷ one ∷ 0 ∷ []) not_number third))
     && refused 7 (0 ∷ 2 ∷ [])
-    (verdict_of (drilled Outline (0 ∷ 0 ∷ longest ∷ one ∷ 0 ∷ one ∷ longest ∷ 0 ∷ []) not_number third))
-    && refused 8 [] (verdict_of (drilled Outline (0 ∷ 0 ∷ half ∷ 0 ∷ one ∷ 0 ∷ []) not_number third))
+    (verdict_in (drilled Outline (0 ∷ 0 ∷ longest ∷ one ∷ 0 ∷ one ∷ longest ∷ 0 ∷ []) not_number third))
+    && refused 8 [] (verdict_in (drilled Outline (0 ∷ 0 ∷ half ∷ 0 ∷ one ∷ 0 ∷ []) not_number third))
 
 pub drilling_holds :
     T

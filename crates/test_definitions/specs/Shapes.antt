@@ -1,6 +1,6 @@
 -- Shapes: sorted lists, an outline's root chord, span and break heights, segments that touch, a section's moments, the
 -- integrands' values.
-use Rattle.std.specs.Prelude.{Bool, not, ◌&&◌, List, [], ◌∷◌, map, ℕ, zero, suc, T, eqb, length, Float, Result, Ok, Err}
+use Rattle.std.specs.Prelude.{Bool, false, not, ◌&&◌, List, [], ◌∷◌, map, ℕ, zero, suc, T, eqb, length, Float, Result, Ok, Err}
 use Rattle.std.specs.Float.Ieee.{add, sub, mul, div, neg, of_bits, to_bits, of_int, round, lt, le, eq, ne}
 use Rattle.floats.specs.Operations.{bits, tabulate}
 use Rattle.floats.specs.Floats.{abs_of}
@@ -12,10 +12,11 @@ use Rattle.segments.specs.Segments.{next}
 use Rattle.breaks.specs.Breaks.{heights, every_y, once, all_heights, break_heights, place_above, one_strip}
 use Rattle.chords.specs.Chords.{crossed, crossings, outline_crossings, ends_at, paired, chords_at}
 use Rattle.limits.specs.Limits.{length_within, length_check}
+use Rattle.refusals.specs.Results.{verdict_in}
 use Rattle.refusals.specs.declared.Refusal.{Refusal}
-use Rattle.refusals.specs.Order.{first_refusal, first_from}
+use Rattle.refusals.specs.Order.{first_from}
 use Rattle.outlines.specs.Outlines.{planform_check}
-use Rattle.planform_chords.specs.PlanformChords.{ends_in, verdict_of, chords_call}
+use Rattle.planform_chords.specs.PlanformChords.{ends_in, chords_call}
 use Rattle.segments.specs.declared.Point.{Point}
 use Rattle.segments.specs.declared.Segment.{Segment}
 use Rattle.segments.specs.Segments.{is_in_box, segments_touch}
@@ -123,7 +124,7 @@ abbrev pub chords_listed : Bool
 chords_listed =
     are ((chords_call plate [] (bits 0)).leaves (tabulate 64 (λ i. bits i))) (0 ∷ d4 ∷ to_bits_from 2 62)
     && lists 1 (chords_call plate [] (bits 0)).answer
-    && refused 4 (1 ∷ []) (verdict_of (chords_call rootless [] (bits 0)).answer)
+    && refused 4 (1 ∷ []) (verdict_in (chords_call rootless [] (bits 0)).answer)
     && are ((chords_call rootless [] (bits 0)).leaves (map bits (d1 ∷ d2 ∷ []))) (d1 ∷ d2 ∷ [])
 
 abbrev point : ℕ → ℕ → Point

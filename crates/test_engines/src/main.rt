@@ -26,7 +26,7 @@ struct Alone {
     last: usize,
 }
 
-// The jobs alone after a call, whether the engine answered the same, and whether a job ended.
+// The jobs alone after a call, whether the engine answered the same, and whether a job ended: all three of every call.
 #[derive(Clone, Copy)]
 struct Called {
     alone: Alone,
@@ -40,6 +40,7 @@ struct Tally {
     differ: u64,
 }
 
+// Bit for bit, as a derived == would not.
 fn same_rows(a: Row, b: Row) -> bool {
     let first = a.figures;
     let second = b.figures;
@@ -57,10 +58,7 @@ fn reply_row(reply: Reply) -> Row {
 fn step_row(progress: Progress, job: Job) -> Row {
     match progress {
         Progress::Short => {
-            let figures = figures::bare_figures(
-                Err(Refusal::Scratch),
-                job.totals.samples,
-            );
+            let figures = figures::bare_figures(Err(Refusal::Scratch), job.totals.samples);
             jobs::figures_row(figures)
         }
         Progress::More => jobs::plain_row(MORE),

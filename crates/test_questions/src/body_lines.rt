@@ -7,7 +7,8 @@ use bodies::{BODY_NUMBERS, Body, TENSOR_NUMBERS, Vector};
 use refusals::{Refusal, Verdict};
 use rotations::Quaternion;
 
-// Returns a turn about the first axis of two, x, or the second, z.
+// Returns a turn about the first axis of two, x, or the second, z. A function handed on would be no shorter than the
+// if.
 fn turn_about(axis: usize, angle_rad: f64) -> Quaternion {
     if axis == 1 {
         Quaternion::from_rotation_x(angle_rad)
@@ -25,6 +26,7 @@ pub(crate) fn matrix_agrees(axis: usize, values: &[f64], answers: &[f64]) -> boo
     lines::agree(answers, &m, 9)
 }
 
+// A function handed on would be no shorter than the if.
 fn turned(body: Body, axis: usize, angle_rad: f64) -> Body {
     if axis == 1 {
         rotations::rotated_x(body, angle_rad)

@@ -120,6 +120,7 @@ pub fn same_numbers(a: &[f64], b: &[f64]) -> bool {
             .all(|(x, y)| floats::to_bits(*x) == floats::to_bits(*y))
 }
 
+// Bit for bit, as a derived == would not.
 pub fn same_figures(a: Figures, b: Figures) -> bool {
     let first = a.verdict;
     let second = b.verdict;

@@ -16,7 +16,8 @@ use Rattle.line_runs.specs.declared.Last.{Last}
 use Rattle.line_runs.specs.Runs.{Ends, Tells, Closes}
 use Rattle.line_runs.proofs.end_run.Goals as goal
 
-module _ {Memory : Type 0} {Answered : Memory → List (List ℕ) → List ℕ → Memory → Type 0} {told : Memory → Bool → List ℕ} {p : Place Memory} (t : Turn)
+module _ {Memory : Type 0} {Answered : Memory → List (List ℕ) → List ℕ → Memory → Type 0} {told : Memory → Bool → List ℕ}
+    {p : Place Memory} (t : Turn)
     {after : Memory} {out : List ℕ} {n : ℕ} where
   -- the input is at its end
   at_end_lem : {most : ℕ} {between : Memory} {written : List ℕ} {last : Last} → at_end t.got ≡ true

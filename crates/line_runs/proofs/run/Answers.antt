@@ -37,7 +37,8 @@ module _ {Memory : Type 0} {Answered : Memory → List (List ℕ) → List ℕ �
       let r = v.reads in
       let e : 0 + length v.taken + (n - length v.taken) ≡ n = omega arith in
       rw e at
-      (still q.memory q.memory (0 + length v.taken) (n - length v.taken) (still p.memory q.memory 0 (length v.taken) first v.hands.takes.stays)
+      (still q.memory q.memory (0 + length v.taken) (n - length v.taken)
+      (still p.memory q.memory 0 (length v.taken) first v.hands.takes.stays)
       (laws.still q.memory (n - length v.taken)))
 
   -- what is lent is still enough

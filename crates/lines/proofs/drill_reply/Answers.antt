@@ -11,7 +11,8 @@ use Rattle.answers.specs.declared.Reply.{Reply}
 use Rattle.lines.specs.Lines.{drill_reply}
 use Rattle.lines.proofs.drill_reply.Goals as goal
 
-drilled : (planform : Planform) (x height : Float) {outline points : List Float} {found known : Result Place Refusal} {r : Reply} → found ≡ known
+drilled : (planform : Planform) (x height : Float) {outline points : List Float} {found known : Result Place Refusal}
+    {r : Reply} → found ≡ known
     → found ≡ drill_of planform outline x height → outline ≡ points → r ≡ drill_reply known → r
     ≡ drill_reply (drill_of planform points x height)
 drilled planform x height k d e h = h ∙ ap drill_reply (sym k ∙ d ∙ ap (λ (p : List Float). drill_of planform p x height) e)
