@@ -18,8 +18,7 @@ use Rattle.refusals.specs.declared.Refusal.{Refusal}
 use Rattle.refusals.specs.declared.Refusal.TheVariants.{NoForm as no_form}
 use Rattle.refusals.specs.Verdict.{Verdict}
 use Rattle.refusals.specs.Order.{is_refused}
-use Rattle.refusals.specs.Refusals.{number_of}
-use Rattle.refusals.specs.Calls.{CallOf, leaves_alone, by_verdict}
+use Rattle.refusals.specs.Calls.{leaves_alone, by_verdict}
 use Rattle.refusals.proofs.Accepted.{both}
 use Rattle.limits.specs.Limits.{scratch_numbers, limit_check, scratch_check}
 use Rattle.fins.specs.declared.FinSet.{FinSet}
@@ -28,9 +27,8 @@ use Rattle.planforms.specs.declared.Planform.{Planform}
 use Rattle.reading.specs.declared.Asked.{Asked}
 use Rattle.reading.specs.declared.Asked.TheVariants.{Refused as RefusedAsked, Set, Area, Join, Moments, Check, Tubes, Closing, Drill}
 use Rattle.reading.specs.declared.Asked.TheVariants.{Copied, Placed, Moved, Without, Submit, Density, Turn, Progress}
-use Rattle.reading.specs.Lines.{Read, refused_read, pick_read, form_read, form_named, word_of, line_read}
+use Rattle.reading.specs.Lines.{refused_read, pick_read, form_read, form_named, word_of, line_read}
 use Rattle.answers.specs.Filled.{filled}
-use Rattle.answers.specs.declared.Reply.{Reply}
 use Rattle.answers.specs.declared.Shape.TheVariants.{Taken as TakenShape, More as MoreShape}
 use Rattle.answers.specs.Answers.{text_of, reply as answered}
 use Rattle.figures.specs.declared.Figures.{Figures}
@@ -53,7 +51,7 @@ use Rattle.engines.proofs.Effects.{in_eight, holds_is_screen}
 use Rattle.engines.proofs.Alone as one
 use Rattle.engines.proofs.Submissions.{eight_behind, on_screen, strip_within_eight}
 use Rattle.engines.proofs.Drawn.{turn_no_shorter, drawn_on_screen}
-use Rattle.lines.specs.Lines.{Memory, Effect, refused_reply, plain_reply, set_reply, done_reply, turn_reply}
+use Rattle.lines.specs.Lines.{Memory, refused_reply, plain_reply, set_reply, done_reply, turn_reply}
 use Rattle.lines.specs.Lines.{set_effect, area_effect, submit_effect, density_effect, turn_effect, effect_of, line_effect}
 use Rattle.inputs.specs.Inputs.{reply, left_by_line, left_by_lines}
 use Rattle.inputs.proofs.Lines.{left_append}

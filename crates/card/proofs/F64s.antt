@@ -1,6 +1,6 @@
 -- The numbers of a set that a line writes are f64s, as the line's figures are: what the bounds of document 02, Paper 14, ask for. Assumes
 -- nothing.
-use mathlib.Core.Path.{◌≡◌, subst}
+use mathlib.Core.Path.{subst}
 use mathlib.Core.Bool.{Bool, true, false, cond}
 use mathlib.Core.List.{List, [], ◌∷◌}
 use Prim.Native.Nat.{ℕ}
@@ -27,7 +27,7 @@ use Rattle.fins.specs.declared.FinSet.{FinSet}
 use Rattle.fins.specs.declared.Tab.{Tab}
 use Rattle.fins.specs.Numbered.{tab_of, numbered_set}
 use Rattle.templates.specs.Matching.{Reading, failed, reading, take_text, take_each}
-use Rattle.templates.proofs.F64s.{Held, text_taken}
+use Rattle.templates.proofs.F64s.{text_taken}
 use Rattle.reading.specs.declared.Asked.{Asked}
 use Rattle.reading.specs.declared.Asked.TheVariants.{Refused, Set, Area, Join, Moments, Check, Tubes, Closing, Drill, Copied, Placed}
 use Rattle.reading.specs.declared.Asked.TheVariants.{Moved, Without, Submit, Density as NewDensity, Turn, Progress}

@@ -1,7 +1,7 @@
 -- Lines leave the engine as the calls that they ask for leave it; so a screen that holds a job when lines begin is
 -- served within eight of their turns, whatever the other lines are. Assumes nothing.
 use mathlib.Core.Bool.{Bool, true, false, cond}
-use mathlib.Core.List.{List, [], ◌∷◌, ◌++◌}
+use mathlib.Core.List.{List, [], ◌∷◌}
 use mathlib.Core.Path.{◌≡◌, refl, sym, ap, ◌∙◌}
 use Prim.Native.Nat.{ℕ, ◌<◌, ◌≤◌}
 use lib.Dec.{leb}
@@ -16,7 +16,7 @@ use Rattle.engines.specs.declared.Engine.{Engine}
 use Rattle.engines.specs.Engines.{holds_job}
 use Rattle.engines.specs.Calls.{after_calls, served_over}
 use Rattle.engines.proofs.Rounds.{within_eight, calls_both}
-use Rattle.lines.specs.Lines.{Memory, Effect, submit_effect, density_effect, turn_effect, set_effect, area_effect, effect_of, line_effect}
+use Rattle.lines.specs.Lines.{Memory, submit_effect, density_effect, turn_effect, set_effect, area_effect, effect_of, line_effect}
 use Rattle.inputs.specs.Inputs.{left_by_line, left_by_lines}
 use Rattle.card.specs.Screens.{calls_by, calls_over, EngineByCalls}
 

@@ -1,8 +1,6 @@
 -- The laws of `line_runs::Answers`, which replies keep.
-use mathlib.Core.Bool.{Bool}
-use mathlib.Core.List.{List}
 use mathlib.Core.Path.{◌≡◌, refl}
-use Prim.Native.Nat.{ℕ, ◌+◌, ◌≤◌}
+use Prim.Native.Nat.{ℕ, ◌≤◌}
 use native.Mathlib.Omega.{arith}
 use Rattle.input_lines.proofs.Taking.{Laws}
 use Rattle.inputs.specs.Inputs.{reply_bytes}

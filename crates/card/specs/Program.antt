@@ -2,7 +2,7 @@
 -- a read brings and which a write takes (docs/ASSUMED.md). The definitions here name what each read and each write
 -- gave; they say how the bytes in the chunk are answered, and which replies the first bytes of `out`, which are handed
 -- to write, are; and they count the bytes that were read, and those that were handed to write.
-use Rattle.std.specs.Prelude.{List, [], ◌∷◌, ◌++◌, Bool, true, false, ◌&&◌, cond, ◌≡◌, ℕ, ◌+◌, ◌-◌, ◌*◌, ◌<◌, ◌≤◌, leb, length, take, drop, replicate}
+use Rattle.std.specs.Prelude.{List, [], ◌∷◌, ◌++◌, Bool, true, ◌&&◌, cond, ◌≡◌, ℕ, ◌+◌, ◌*◌, ◌<◌, ◌≤◌, length, take, replicate}
 use Rattle.floats.specs.Operations.{bits}
 use Rattle.tokens.specs.Text.{text}
 use Rattle.limits.specs.Limits.{scratch_numbers}

@@ -1,10 +1,4 @@
 -- `card::run` meets its contract: a run over the input whose lines are replied. Assumes nothing.
-use mathlib.Core.Bool.{cond}
-use mathlib.Core.List.{List, []}
-use Rattle.input_lines.specs.Lines.{lines_within, lines_of}
-use Rattle.inputs.specs.States.{Answered}
-use Rattle.reads.specs.Reads.{at_end}
-use Rattle.card.specs.Program.{memory_at}
 use Rattle.card.proofs.run.Goals as goal
 
 pub returns : goal.returns
