@@ -28,7 +28,7 @@ use Rattle.rounding.proofs.Signed.{over as above, under as below}
 use Rattle.rounding.proofs.Sizes.{positive_of}
 use Rattle.refusals.specs.declared.Refusal.TheVariants.{NoArea}
 use Rattle.refusals.specs.Verdict.{Verdict}
-use Rattle.refusals.specs.Order.{refuse_when, first_refusal}
+use Rattle.refusals.specs.Order.{refuse_when}
 use Rattle.refusals.specs.Calls.{leaves_alone, by_verdict}
 use Rattle.refusals.proofs.Accepted.{both}
 use Rattle.limits.specs.Limits.{piece_samples, root_chord_field, tip_chord_field, thickness_field, body_radius_field, length_check}

@@ -4,7 +4,7 @@ use Rattle.std.specs.Float.{nan}
 use Rattle.std.specs.Float.Ieee.{add, sub, mul, div, neg, of_bits, to_bits, of_int, round, is_nan, lt, le, eq, ne}
 use Rattle.floats.specs.Operations.{bits, tabulate}
 use Rattle.trig.specs.Trig.{m_of, sin_cos_of}
-use Rattle.refusals.specs.Order.{first_refusal, first_from}
+use Rattle.refusals.specs.Order.{first_from}
 use Rattle.bodies.specs.declared.Body.{Body}
 use Rattle.bodies.specs.declared.Matrix.{Matrix}
 use Rattle.bodies.specs.declared.Vector.{Vector}

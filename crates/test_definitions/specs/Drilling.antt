@@ -4,7 +4,7 @@ use Rattle.std.specs.Prelude.{Bool, not, ◌&&◌, cond, List, [], ◌∷◌, ma
 use Rattle.std.specs.Float.Ieee.{add, sub, mul, div, of_bits, lt, le, eq, ne}
 use Rattle.floats.specs.Operations.{bits, every}
 use Rattle.floats.specs.Floats.{abs_of}
-use Rattle.refusals.specs.Order.{is_refused, first_refusal, first_from}
+use Rattle.refusals.specs.Order.{first_from}
 use Rattle.planforms.specs.declared.Planform.{Planform}
 use Rattle.planforms.specs.declared.Planform.TheVariants.{Trapezoid, Ellipse, Outline}
 use Rattle.limits.specs.Limits.{length_within, length_check}

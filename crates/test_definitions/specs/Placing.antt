@@ -6,7 +6,7 @@ use Rattle.floats.specs.Operations.{bits, every, tabulate}
 use Rattle.floats.specs.Floats.{abs_of}
 use Rattle.root.specs.Root.{root_of, near_root}
 use Rattle.trig.specs.Trig.{m_of, sin_cos_of}
-use Rattle.refusals.specs.Order.{is_refused, first_refusal, first_from}
+use Rattle.refusals.specs.Order.{first_from}
 use Rattle.limits.specs.Limits.{length_within, length_check, angle_check}
 use Rattle.bodies.specs.declared.Body.{Body}
 use Rattle.bodies.specs.Vectors.{vector}

@@ -7,7 +7,6 @@ use Rattle.floats.specs.Operations.{bits}
 use Rattle.bodies.specs.declared.Body.{Body}
 use Rattle.bodies.specs.Vectors.{vector}
 use Rattle.bodies.specs.Bodies.{empty_body, inertia_about_of, point_mass, of_origin_tensor}
-use Rattle.refusals.specs.Order.{first_refusal}
 use Rattle.halving.specs.Endings.{Ending, accepted as Accepted, not_converged as NotConverged}
 use Rattle.halving.specs.declared.Integral.{Integral}
 use Rattle.joins.specs.Joins.{in_order, sums_of, inertia_of, join_of}

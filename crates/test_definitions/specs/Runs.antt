@@ -9,7 +9,7 @@ use Rattle.quadrature.specs.declared.Piece.{Piece}
 use Rattle.quadrature.specs.Rule.{heights_to, weighted_to, heights_of, piece_of, zeros}
 use Rattle.tolerance.specs.Bounds.{total_of, error_of, absolute, relative, bound_for, converged, score_of, last_highest}
 use Rattle.tolerance.specs.Bounds.{worst_place, component_of}
-use Rattle.halving.specs.Endings.{Ending, accepted as Accepted, not_converged as NotConverged}
+use Rattle.halving.specs.Endings.{Ending}
 use Rattle.halving.specs.Halving.{repeat, halving}
 use Rattle.strips.specs.Strips.{Run, strip_at}
 use Rattle.test_definitions.specs.Rows.{is, are}

@@ -5,7 +5,7 @@ use Rattle.std.specs.Float.{nan}
 use Rattle.std.specs.Float.Ieee.{of_bits, to_bits, of_int, add, sub, mul, div, neg, lt, le, eq, ne}
 use Rattle.floats.specs.Operations.{bits, every}
 use Rattle.floats.specs.Floats.{abs_of}
-use Rattle.refusals.specs.Order.{is_refused, first_refusal, first_from}
+use Rattle.refusals.specs.Order.{first_from}
 use Rattle.limits.specs.Limits.{scratch_check, length_within, length_check, angle_check}
 use Rattle.fillets.specs.Fillets.{is_none, is_sound, ratio_check}
 use Rattle.materials.specs.declared.Density.{Density}

@@ -1,6 +1,6 @@
 -- Shapes: sorted lists, an outline's root chord, span and break heights, segments that touch, a section's moments, the
 -- integrands' values.
-use Rattle.std.specs.Prelude.{Bool, not, ◌&&◌, List, [], ◌∷◌, map, ℕ, zero, suc, T, eqb, length, Float, Result, Ok, Err}
+use Rattle.std.specs.Prelude.{Bool, false, not, ◌&&◌, List, [], ◌∷◌, map, ℕ, zero, suc, T, eqb, length, Float, Result, Ok, Err}
 use Rattle.std.specs.Float.Ieee.{add, sub, mul, div, neg, of_bits, to_bits, of_int, round, lt, le, eq, ne}
 use Rattle.floats.specs.Operations.{bits, tabulate}
 use Rattle.floats.specs.Floats.{abs_of}
@@ -13,7 +13,7 @@ use Rattle.breaks.specs.Breaks.{heights, every_y, once, all_heights, break_heigh
 use Rattle.chords.specs.Chords.{crossed, crossings, outline_crossings, ends_at, paired, chords_at}
 use Rattle.limits.specs.Limits.{length_within, length_check}
 use Rattle.refusals.specs.declared.Refusal.{Refusal}
-use Rattle.refusals.specs.Order.{first_refusal, first_from}
+use Rattle.refusals.specs.Order.{first_from}
 use Rattle.outlines.specs.Outlines.{planform_check}
 use Rattle.planform_chords.specs.PlanformChords.{ends_in, verdict_of, chords_call}
 use Rattle.segments.specs.declared.Point.{Point}

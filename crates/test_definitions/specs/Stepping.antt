@@ -4,7 +4,6 @@ use Rattle.std.specs.Float.Ieee.{add, sub, mul, div, of_bits, to_bits, of_int, r
 use Rattle.floats.specs.Operations.{bits, at, every}
 use Rattle.floats.specs.Floats.{abs_of}
 use Rattle.refusals.specs.declared.Refusal.TheVariants as refusal
-use Rattle.refusals.specs.Order.{is_refused, first_refusal}
 use Rattle.limits.specs.Limits.{scratch_check}
 use Rattle.materials.specs.declared.Density.{Density}
 use Rattle.materials.specs.declared.Density.TheVariants.{Bulk, Surface, Line}

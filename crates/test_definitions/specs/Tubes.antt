@@ -5,7 +5,7 @@ use Rattle.std.specs.Float.Ieee.{add, sub, mul, div, neg, of_bits, to_bits, of_i
 use Rattle.floats.specs.Operations.{bits}
 use Rattle.floats.specs.Floats.{abs_of}
 use Rattle.trig.specs.Trig.{m_of, sin_cos_of}
-use Rattle.refusals.specs.Order.{first_refusal, first_from}
+use Rattle.refusals.specs.Order.{first_from}
 use Rattle.refusals.specs.Results.{verdict_in}
 use Rattle.limits.specs.Limits.{length_within, length_check, angle_check}
 use Rattle.materials.specs.declared.Density.TheVariants.{Bulk, Surface}
