@@ -33,7 +33,7 @@ use Rattle.refusals.specs.Numbered.{number_in}
 use Rattle.refusals.specs.Lent.{over, with_values, with_count, with_counts, room}
 use Rattle.figures.specs.Numbered.{figure_counts}
 use Rattle.exports.specs.Calls.{SetCall, area_numbers, area_counts, AreaCall, ChordsCall, DrillCall, BodyCall, ClosingCall}
-use Rattle.exports.specs.Calls.{JoinCall, moments_numbers, MomentsCall, CheckCall}
+use Rattle.exports.specs.Calls.{JoinCall, MomentsCall, CheckCall}
 use Rattle.refusals.proofs.Rooms.{has_room, few_figures, few_counts}
 use Rattle.limits.specs.Limits.{most_points}
 
@@ -182,3 +182,27 @@ module _ {numbers : List Float} {values : List ℕ} where
       values' ≡ with_values values v → r ≡ number_in v → CheckCall numbers values r values'
   check_written h e c n =
       let fits = le-leb 2 (length values) h in record { returned = rw (fits, ← e) n; counted = rw (fits, ← e) c }
+
+-- what follows for each call
+pub ruleset calls = (
+  short_figures,
+  short_counts,
+  set_refused,
+  set_written,
+  area_refused,
+  area_written,
+  chords_refused,
+  chords_written,
+  drill_refused,
+  drill_written,
+  closing_refused,
+  closing_written,
+  join_refused,
+  join_written,
+  body_refused,
+  body_written,
+  moments_refused,
+  moments_written,
+  check_refused,
+  check_written,
+)

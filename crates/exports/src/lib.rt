@@ -9,7 +9,7 @@
 // planform is its number and four lengths, and an outline's points are a list of their own. An unknown number, or a
 // list of another length, is 18 (no form); but points that are not 3 to 64 pairs are 5, and bodies that are not 1 to 32
 // whole ones are 3. A lent slice that is too short for what is written over it is 18 too, and then nothing is written.
-#![tactic(auto)]
+#![tactic(auto, using(crate::proofs::Calls::calls))]
 
 ghost use Rattle.std.specs.Prelude.{◌≡◌, [], ◌∷◌, ◌≤◌, length};
 ghost use Rattle.root.specs.Root.{root_of, IsRoot};

@@ -14,7 +14,7 @@ use Rattle.refusals.specs.declared.Refusal.{Refusal}
 use Rattle.refusals.specs.declared.Refusal.TheVariants.{Limit, Count, Screen as not_free, Density as not_taken}
 use Rattle.refusals.specs.Verdict.{Verdict}
 use Rattle.counts.specs.Counts.{capped}
-use Rattle.refusals.specs.Order.{refuse_unless, is_refused, first_refusal}
+use Rattle.refusals.specs.Order.{refuse_unless, first_refusal}
 use Rattle.refusals.specs.Calls.{CallOf, leaves_alone, by_verdict}
 use Rattle.limits.specs.Limits.{limit_check, scratch_check, count_check}
 use Rattle.planforms.specs.declared.Planform.{Planform}
@@ -45,7 +45,7 @@ use Rattle.reading.specs.declared.Asked.TheVariants.{Tubes as TubesAsked, Closin
 use Rattle.reading.specs.declared.Asked.TheVariants.{Copied as CopiedAsked, Placed as PlacedAsked, Moved as MovedAsked}
 use Rattle.reading.specs.declared.Asked.TheVariants.{Without as WithoutAsked, Submit as SubmitAsked, Density as DensityAsked}
 use Rattle.reading.specs.declared.Asked.TheVariants.{Turn as TurnAsked, Progress as ProgressAsked}
-use Rattle.lines.specs.Lines.{Memory, Effect, set_reply, area_reply, body_reply, closing_reply, progress_reply, replied_by, works, engages}
+use Rattle.lines.specs.Lines.{Memory, set_reply, area_reply, body_reply, closing_reply, progress_reply, replied_by, works, engages}
 use Rattle.lines.specs.Lines.{set_effect, area_effect, submit_effect, density_effect, effect_of}
 
 -- ---- the two checks

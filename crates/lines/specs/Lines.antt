@@ -1,6 +1,6 @@
 -- The answer to a line, and what it leaves in the lent scratch and in the engine of eight screens (docs/FORMS.md;
 -- document 01, "The card program" and "Refusal numbers").
-use Rattle.std.specs.Prelude.{List, [], ◌∷◌, ◌≡◌, ℕ, ◌+◌, ◌<◌, length, take, drop, get_or, Float, Ok, Err, Result}
+use Rattle.std.specs.Prelude.{List, [], ◌∷◌, ◌≡◌, ℕ, length, take, drop, get_or, Float, Ok, Err, Result}
 use Rattle.floats.specs.Operations.{at}
 use Rattle.refusals.specs.declared.Refusal.{Refusal}
 use Rattle.refusals.specs.declared.Refusal.TheVariants.{Scratch as short}
