@@ -34,7 +34,7 @@ use Rattle.tolerance.specs.Bounds.{total_of, sum_from}
 use Rattle.halving.specs.Halving.{halving, Halved}
 use Rattle.halving.specs.Scratch.{intervals_of}
 use Rattle.std.specs.Prelude.{Ok, Err}
-use Rattle.halving.specs.Endings.{Ending, accepted as ended, not_converged as NotConverged}
+use Rattle.halving.specs.Endings.{Ending, accepted as ended}
 use Rattle.halving.proofs.Outcomes.{kept}
 use Rattle.halving.proofs.Reached.{Ends, at_once, later, ends_so}
 use Rattle.strips.specs.Strips.{Worked, worked_of, strip_of, pieces_of, is_accepted, ending_of, ending_from, intervals_in}

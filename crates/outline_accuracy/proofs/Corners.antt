@@ -5,7 +5,7 @@ use mathlib.Core.Bool.{Bool, true, false, cond, ◌||◌}
 use mathlib.Core.List.{List, [], ◌∷◌}
 use mathlib.Core.Logic.{◌⊎◌, inl, inr}
 use Prim.Native.Nat.{ℕ, zero, suc, ◌+◌, ◌*◌, ◌≤◌, ◌<◌}
-use native.Mathlib.Nat.{le_refl, le_trans, le-suc, sub-zero, eq-or-lt_of_le, le_of_suc-le-suc, not-suc-le-zero}
+use native.Mathlib.Nat.{le_refl, le_trans, le-suc, eq-or-lt_of_le, le_of_suc-le-suc, not-suc-le-zero}
 use native.Mathlib.Omega.{arith}
 use lib.Dec.{T, leb}
 use lib.Ieee.{Float, binary64, fits, of_bits, lt, eq, ne, is_nan}
@@ -18,7 +18,7 @@ use Rattle.floats.proofs.Order.{ne_itself}
 use Rattle.rounding.specs.Sizes.{AtMost, Below}
 use Rattle.rounding.proofs.Signs.{finite_no_nan}
 use Rattle.rounding.proofs.Sizes.{positive_of, zero_below, weaker}
-use Rattle.refusals.proofs.Accepted.{both, each_accepted}
+use Rattle.refusals.proofs.Accepted.{both}
 use Rattle.limits.specs.Limits.{point_xfield, point_yfield, length_check}
 use Rattle.limits.proofs.Lengths.{PositiveLength, above_checked}
 use Rattle.sorting.specs.Sorted.{sorted, Each, among, below_all}

@@ -34,7 +34,7 @@ use Rattle.breaks.proofs.Listed.{most_breaks}
 use Rattle.integrands.specs.Integrands.{scale_of, area_three}
 use Rattle.integrands.proofs.Scales.{Scale, scale_sized}
 use Rattle.std.specs.Prelude.{Ok, Err}
-use Rattle.halving.specs.Endings.{Ending, accepted as ended, not_converged as NotConverged}
+use Rattle.halving.specs.Endings.{Ending, accepted as ended}
 use Rattle.strips.specs.Strips.{worked_of, value_from, intervals_in, ending_of}
 use Rattle.strips.specs.Claim.{Reported}
 use Rattle.widths.proofs.Strips.{intervals_same}

@@ -57,10 +57,7 @@ fn reply_row(reply: Reply) -> Row {
 fn step_row(progress: Progress, job: Job) -> Row {
     match progress {
         Progress::Short => {
-            let figures = figures::bare_figures(
-                Err(Refusal::Scratch),
-                job.totals.samples,
-            );
+            let figures = figures::bare_figures(Err(Refusal::Scratch), job.totals.samples);
             jobs::figures_row(figures)
         }
         Progress::More => jobs::plain_row(MORE),
