@@ -1,6 +1,6 @@
 -- From the call for a set's figures to the fin of proofs/SevenIntegrals: its lengths, its integrals, and the exact ones of specs/Inertias
 -- in fractions. Assumes nothing.
-use Rattle.std.specs.Prelude.{Ok}
+use Rattle.std.specs.Prelude.{Ok, Option, Some, None}
 use mathlib.Core.Path.{◌≡◌, refl, sym, ap, ◌∙◌, subst}
 use mathlib.Core.Bool.{Bool, true, false, cond}
 use mathlib.Core.List.{List, [], ◌∷◌}
@@ -35,8 +35,7 @@ use Rattle.quadrature.specs.declared.Piece.{Piece}
 use Rattle.tolerance.specs.Bounds.{total_of, sum_from}
 use Rattle.strips.specs.Strips.{Worked, value_from, strip_of, pieces_of, intervals_in}
 use Rattle.fins.specs.declared.FinSet.{FinSet}
-use Rattle.fins.specs.declared.Tab.{Tab}
-use Rattle.fins.specs.declared.Tab.TheVariants.{None, Slab}
+use Rattle.fins.specs.declared.FinTab.{FinTab}
 use Rattle.fins.specs.Fins.{tab_check}
 use Rattle.fins.proofs.Accepted.{AcceptedSet, set_accepted}
 use Rattle.fins.proofs.Sized.{planform_sized}
@@ -61,9 +60,9 @@ use Rattle.accuracy.proofs.SevenIntegrals.{numbers_in, tab_numbers, fin_in, tab_
 use Rattle.accuracy.proofs.ToFractions.{fraction_in, among_fractions, AreFractions, expression_fraction}
 
 -- ---- the exact integrals of specs/Inertias
-abbrev tab_fractions : Tab → List Fraction
+abbrev tab_fractions : Option FinTab → List Fraction
 tab_fractions None = []
-tab_fractions (Slab height length offset) = fraction_of height ∷ fraction_of length ∷ fraction_of offset ∷ []
+tab_fractions (Some tab) = fraction_of tab.height_m ∷ fraction_of tab.length_m ∷ fraction_of tab.offset_m ∷ []
 
 abbrev fractions_of : Plate → Float → List Fraction
 fractions_of p radius =
@@ -95,14 +94,14 @@ module _ (p : Plate) (radius : Float) where
 
 -- of a tab, where its numbers stand behind six others
 module _ (a b c d thickness radius : Float) where
-  abbrev TabField : Tab → ℕ → Type 0
+  abbrev TabField : Option FinTab → ℕ → Type 0
   TabField t i =
       fraction_in (among_fractions (fraction_of a ∷ fraction_of b ∷ fraction_of c ∷ fraction_of d ∷ fraction_of thickness ∷
       fraction_of radius ∷ tab_fractions t)) (tab_e t i) ≡ field_of (tab_integrals t thickness radius) i
 
-  tab_field : (t : Tab) (i : ℕ) → i < 7 → TabField t i
+  tab_field : (t : Option FinTab) (i : ℕ) → i < 7 → TabField t i
   tab_field None = each_of_seven (λ i. TabField None i) refl refl refl refl refl refl refl
-  tab_field (Slab x y z) = each_of_seven (λ i. TabField (Slab x y z) i) refl refl refl refl refl refl refl
+  tab_field (Some t) = each_of_seven (λ i. TabField (Some t) i) refl refl refl refl refl refl refl
 
 both_field : (a b : Integrals) (i : ℕ) → i < 7 → field_of (together a b) i ≡ sum (field_of a i) (field_of b i)
 both_field a b = each_of_seven (λ i. field_of (together a b) i ≡ sum (field_of a i) (field_of b i)) refl refl refl refl refl refl refl
@@ -116,13 +115,14 @@ exact_field s e p radius i l =
     ∙ sym (both_field (fin_integrals s p radius) (tab_integrals p.tab p.thickness radius) i l)
 
 -- ---- the call
-pub tab_lengths : (height length offset root : Float) → T (fits binary64 height) → T (fits binary64 length)
-    → tab_check (Slab height length offset) root ≡ Ok tt → PositiveLength height × PositiveLength length
+pub tab_lengths : (tab : FinTab) (root : Float) → T (fits binary64 tab.height_m) → T (fits binary64 tab.length_m)
+    → tab_check (Some tab) root ≡ Ok tt → PositiveLength tab.height_m × PositiveLength tab.length_m
 unfolding tab_check
-tab_lengths height length offset root h l c =
+tab_lengths tab root h l c =
     let (a, (b, rest)) = each_accepts
-    (length_check tab_height_field height ∷ length_check tab_length_field length ∷ length_check tab_offset_field offset ∷ _ ∷ []) c in
-    (field_above tab_height_field height h a refl refl, field_above tab_length_field length l b refl refl)
+    (length_check tab_height_field tab.height_m ∷ length_check tab_length_field tab.length_m
+    ∷ length_check tab_offset_field tab.offset_m ∷ _ ∷ []) c in
+    (field_above tab_height_field tab.height_m h a refl refl, field_above tab_length_field tab.length_m l b refl refl)
 
 -- what root, span, thickness and a radius do not pass
 pub record Reached (p : Plate) (radius : Float) (b d : ℕ) : Type 0 where
@@ -282,20 +282,20 @@ module _ (section : Section) (p : Plate) (m : Mount) (points : List Float) (L : 
 
   -- ---- its lengths
   module _ (x : Float) (b d : ℕ) (reached : Reached p x b d) (beside : TabBeside (spans_in c) p.tab p x) where
-    tab_sizes : (t : Tab) → TabBeside (spans_in c) t p x → tab_check t p.root ≡ Ok tt → TabKnown (fin_at x) c t
+    tab_sizes : (t : Option FinTab) → TabBeside (spans_in c) t p x → tab_check t p.root ≡ Ok tt → TabKnown (fin_at x) c t
     tab_sizes None w k = tt
-    tab_sizes (Slab height length offset) w k =
+    tab_sizes (Some tab) w k =
         let v = w.0 in
-        let l = tab_lengths height length offset p.root v.0.0 v.0.1 k in
+        let l = tab_lengths tab p.root v.0.0 v.0.1 k in
         record {
           height_finite = v.1.1.finite;
           length_finite = v.1.0.0.finite;
           offset_finite = v.1.0.1.finite;
-          height_from_zero = positive_from height (long height l.0).0;
-          length_from_zero = positive_from length (long length l.1).0;
-          height_under = lengths_under p.span (spans_in c) height v.1.1;
-          length_under = most_under length (num p.root) (den p.root) v.1.0.0;
-          offset_under = most_under offset (num p.root) (den p.root) v.1.0.1;
+          height_from_zero = positive_from tab.height_m (long tab.height_m l.0).0;
+          length_from_zero = positive_from tab.length_m (long tab.length_m l.1).0;
+          height_under = lengths_under p.span (spans_in c) tab.height_m v.1.1;
+          length_under = most_under tab.length_m (num p.root) (den p.root) v.1.0.0;
+          offset_under = most_under tab.offset_m (num p.root) (den p.root) v.1.0.1;
           radius_under = most_under x (num p.span) (den p.span) w.1;
         }
 
@@ -347,11 +347,11 @@ module _ (section : Section) (p : Plate) (m : Mount) (points : List Float) (L : 
             below b d h = omega arith
 
     -- ---- in fractions
-    tab_fractions_lem : (t : Tab) → TabKnown (fin_at x) c t → AreFractions (tab_numbers t) (tab_fractions t)
+    tab_fractions_lem : (t : Option FinTab) → TabKnown (fin_at x) c t → AreFractions (tab_numbers t) (tab_fractions t)
     tab_fractions_lem None h = tt
-    tab_fractions_lem (Slab height length offset) h =
-        let l = value_fraction length h.length_finite in
-        (value_fraction height h.height_finite, (l, (value_fraction offset h.offset_finite, tt)))
+    tab_fractions_lem (Some tab) h =
+        let l = value_fraction tab.length_m h.length_finite in
+        (value_fraction tab.height_m h.height_finite, (l, (value_fraction tab.offset_m h.offset_finite, tt)))
 
     lengths_are : AreFractions (numbers_in (fin_at x)) (fractions_of p x)
     lengths_are =

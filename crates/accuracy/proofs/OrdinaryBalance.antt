@@ -1,6 +1,6 @@
 -- The balance point along the axis of a set that one piece is enough for, of square or airfoil section, with a tab or none and no cant:
 -- near the exact one by computed bounds, from the volume and the moment of proofs/SevenIntegrals. Assumes nothing.
-use Rattle.std.specs.Prelude.{Ok}
+use Rattle.std.specs.Prelude.{Ok, Option, Some, None}
 use Rattle.rounding_error.proofs.Polynomials.{◌equals◌, trans, itself, times_is, equal_by, evaluated_is, evaluated_equal, AllNumbers}
 use Rattle.rounding_error.proofs.Polynomials.{Expression, given, ratio, ◌add◌, ◌mul◌}
 use Rattle.rounding_error.proofs.Distances.{within_upto, sorted, within_minus}
@@ -59,8 +59,7 @@ use Rattle.bodies.specs.declared.Body.{Body}
 use Rattle.bodies.specs.Bodies.{of_origin_tensor}
 use Rattle.joins.specs.Joins.{in_order}
 use Rattle.rings.specs.Rings.{joined_copies}
-use Rattle.fins.specs.declared.Tab.{Tab}
-use Rattle.fins.specs.declared.Tab.TheVariants.{None, Slab}
+use Rattle.fins.specs.declared.FinTab.{FinTab}
 use Rattle.fins.specs.Fins.{tab_check}
 use Rattle.fins.proofs.Accepted.{AcceptedSet, set_count}
 use Rattle.plates.specs.Integrals.{volume, r1, x1, first_moment, tab_integrals_of}
@@ -124,28 +123,28 @@ abbrev term_unit : List ℕ
 term_unit = 2 ∷ 1 ∷ 0 ∷ 1 ∷ 0 ∷ 1 ∷ []
 
 -- errors in roundoffs and sizes in 1024ths of the units
-abbrev mass_size : Class → Tab → ℕ
+abbrev mass_size : Class → Option FinTab → ℕ
 mass_size near tab = by_tab 1026 2052 tab
 mass_size far tab = by_tab 1026 2052 tab
 mass_size wide tab = by_tab 1539 5650 tab
 
-abbrev term_size : Class → Tab → ℕ
+abbrev term_size : Class → Option FinTab → ℕ
 term_size near tab = by_tab 1026 2564 tab
 term_size far tab = by_tab 2562 4100 tab
 term_size wide tab = by_tab 8026 14180 tab
 
-abbrev term_error : Class → Tab → ℕ
+abbrev term_error : Class → Option FinTab → ℕ
 term_error near tab = by_tab 487 2940 tab
 term_error far tab = by_tab 1900 7010 tab
 term_error wide tab = by_tab 13040 119500 tab
 
-abbrev balance_error : Class → Tab → ℕ
+abbrev balance_error : Class → Option FinTab → ℕ
 balance_error near tab = by_tab 2100 11000 tab
 balance_error far tab = by_tab 8100 26000 tab
 balance_error wide tab = by_tab 52000 388000 tab
 
 -- volume, the moment's negative, density and a zero
-abbrev term_list : Class → Bool → Tab → (v x : Float) → (V₀ X₀ : Number) → (density naught : Float) → List Given
+abbrev term_list : Class → Bool → Option FinTab → (v x : Float) → (V₀ X₀ : Number) → (density naught : Float) → List Given
 term_list c foil tab v x V₀ X₀ density naught =
     entry v V₀ (shape_at c foil tab 0) (least_parts foil) ∷
     entry x X₀ (shape_at c foil tab 3) 0 ∷
@@ -164,19 +163,19 @@ term_e = (given 6 add (given 2 mul given 1)) mul (given 4 mul given 0)
 abbrev sum_error : ℕ → ℕ → ℕ
 sum_error K size = K + 33 * (size * 2 ^ 19) + 2
 
-abbrev masses_shape : Class → Bool → Tab → Shape
+abbrev masses_shape : Class → Bool → Option FinTab → Shape
 masses_shape c foil tab =
     shape (sum_error (error_in (mass_shape c foil tab)) (mass_size c tab)) (mass_size c tab * 2 ^ 20) (added mass_unit (place 6)) []
 
-abbrev terms_shape : Class → Tab → Shape
+abbrev terms_shape : Class → Option FinTab → Shape
 terms_shape c tab =
     shape (sum_error (term_error c tab * 2 ^ 30) (term_size c tab)) (term_size c tab * 2 ^ 20) (added term_unit (place 6)) []
 
-abbrev ring_list : Class → Bool → Tab → (m t : Float) → (M₀ T₀ : Number) → List Given
+abbrev ring_list : Class → Bool → Option FinTab → (m t : Float) → (M₀ T₀ : Number) → List Given
 ring_list c foil tab m t M₀ T₀ = entry m M₀ (masses_shape c foil tab) (least_parts foil) ∷ entry t T₀ (terms_shape c tab) 0 ∷ []
 
 module _ (v x : Float) (V₀ X₀ : Number) (density naught m t : Float) (M₀ T₀ : Number) where
-  pub record RingPass (c : Class) (foil : Bool) (tab : Tab) : Type 0 where
+  pub record RingPass (c : Class) (foil : Bool) (tab : Option FinTab) : Type 0 where
     pub mass_most : T (size_test (mass_list c foil tab v V₀ density) (given 2 mul given 0) (mass_size c tab * 2 ^ 20) mass_unit [])
     pub mass_few : T (leb (error_in (mass_shape c foil tab)) (2 ^ 47))
     pub term : T (nearer (term_list c foil tab v x V₀ X₀ density naught) term_e (term_error c tab * 2 ^ 30) term_unit []
@@ -185,30 +184,30 @@ module _ (v x : Float) (V₀ X₀ : Number) (density naught m t : Float) (M₀ T
     pub quotient : T (nearer (ring_list c foil tab m t M₀ T₀) (given 2 mul given 1) (balance_error c tab * 2 ^ 30) (1 ∷ []) []
         (judge (ring_list c foil tab m t M₀ T₀) (var 1 over_t 0)))
 
-  ring_pass : (c : Class) (foil : Bool) (tab : Tab) → RingPass c foil tab
+  ring_pass : (c : Class) (foil : Bool) (tab : Option FinTab) → RingPass c foil tab
   unfolding round of_bits
   ring_pass near false None = record { mass_most = tt; mass_few = tt; term = tt; term_most = tt; quotient = tt }
-  ring_pass near false (Slab height length offset) = record { mass_most = tt; mass_few = tt; term = tt; term_most = tt; quotient = tt }
+  ring_pass near false (Some t) = record { mass_most = tt; mass_few = tt; term = tt; term_most = tt; quotient = tt }
   ring_pass near true None = record { mass_most = tt; mass_few = tt; term = tt; term_most = tt; quotient = tt }
-  ring_pass near true (Slab height length offset) = record { mass_most = tt; mass_few = tt; term = tt; term_most = tt; quotient = tt }
+  ring_pass near true (Some t) = record { mass_most = tt; mass_few = tt; term = tt; term_most = tt; quotient = tt }
   ring_pass far false None = record { mass_most = tt; mass_few = tt; term = tt; term_most = tt; quotient = tt }
-  ring_pass far false (Slab height length offset) = record { mass_most = tt; mass_few = tt; term = tt; term_most = tt; quotient = tt }
+  ring_pass far false (Some t) = record { mass_most = tt; mass_few = tt; term = tt; term_most = tt; quotient = tt }
   ring_pass far true None = record { mass_most = tt; mass_few = tt; term = tt; term_most = tt; quotient = tt }
-  ring_pass far true (Slab height length offset) = record { mass_most = tt; mass_few = tt; term = tt; term_most = tt; quotient = tt }
+  ring_pass far true (Some t) = record { mass_most = tt; mass_few = tt; term = tt; term_most = tt; quotient = tt }
   ring_pass wide false None = record { mass_most = tt; mass_few = tt; term = tt; term_most = tt; quotient = tt }
-  ring_pass wide false (Slab height length offset) = record { mass_most = tt; mass_few = tt; term = tt; term_most = tt; quotient = tt }
+  ring_pass wide false (Some t) = record { mass_most = tt; mass_few = tt; term = tt; term_most = tt; quotient = tt }
   ring_pass wide true None = record { mass_most = tt; mass_few = tt; term = tt; term_most = tt; quotient = tt }
-  ring_pass wide true (Slab height length offset) = record { mass_most = tt; mass_few = tt; term = tt; term_most = tt; quotient = tt }
+  ring_pass wide true (Some t) = record { mass_most = tt; mass_few = tt; term = tt; term_most = tt; quotient = tt }
 
-terms_few : (c : Class) (tab : Tab) → (term_error c tab * 2 ^ 30 ≤ 2 ^ 47) × (term_size c tab * 2 ^ 19 ≤ 2 ^ 34)
+terms_few : (c : Class) (tab : Option FinTab) → (term_error c tab * 2 ^ 30 ≤ 2 ^ 47) × (term_size c tab * 2 ^ 19 ≤ 2 ^ 34)
 terms_few c tab = each_class (λ c foil tab. (term_error c tab * 2 ^ 30 ≤ 2 ^ 47) × (term_size c tab * 2 ^ 19 ≤ 2 ^ 34))
     (lit≤ tt, lit≤ tt) (lit≤ tt, lit≤ tt) (lit≤ tt, lit≤ tt) (lit≤ tt, lit≤ tt) (lit≤ tt, lit≤ tt) (lit≤ tt, lit≤ tt)
-    (λ x y z. (lit≤ tt, lit≤ tt)) (λ x y z. (lit≤ tt, lit≤ tt)) (λ x y z. (lit≤ tt, lit≤ tt)) (λ x y z. (lit≤ tt, lit≤ tt))
-    (λ x y z. (lit≤ tt, lit≤ tt)) (λ x y z. (lit≤ tt, lit≤ tt)) c false tab
+    (λ t. (lit≤ tt, lit≤ tt)) (λ t. (lit≤ tt, lit≤ tt)) (λ t. (lit≤ tt, lit≤ tt)) (λ t. (lit≤ tt, lit≤ tt))
+    (λ t. (lit≤ tt, lit≤ tt)) (λ t. (lit≤ tt, lit≤ tt)) c false tab
 
-masses_few : (c : Class) (tab : Tab) → mass_size c tab * 2 ^ 19 ≤ 2 ^ 34
+masses_few : (c : Class) (tab : Option FinTab) → mass_size c tab * 2 ^ 19 ≤ 2 ^ 34
 masses_few c tab = each_class (λ c foil tab. mass_size c tab * 2 ^ 19 ≤ 2 ^ 34) (lit≤ tt) (lit≤ tt) (lit≤ tt) (lit≤ tt) (lit≤ tt) (lit≤ tt)
-    (λ x y z. lit≤ tt) (λ x y z. lit≤ tt) (λ x y z. lit≤ tt) (λ x y z. lit≤ tt) (λ x y z. lit≤ tt) (λ x y z. lit≤ tt) c false tab
+    (λ t. lit≤ tt) (λ t. lit≤ tt) (λ t. lit≤ tt) (λ t. lit≤ tt) (λ t. lit≤ tt) (λ t. lit≤ tt) c false tab
 
 module _ (f : Fin) (c : Class) (b d : ℕ) (g : Sizes f c b d) (n : ℕ) (some : 1 ≤ n) (few : n ≤ 32) (naught : ℕ → Float)
     (naughts : (k : ℕ) → k < n → AtMost 0 1 (naught k)) where
@@ -405,21 +404,22 @@ module _ (f : Fin) (c : Class) (b d : ℕ) (g : Sizes f c b d) (n : ℕ) (some :
       (equal_by (N ∷ []) (i, tt) (given 0 mul (ratio 1 0 mul ratio 1 0)) (given 0) tt))
 
 -- what a tab adds to the first moment about the axis is at most 2^27
-tab_radius_below : (thickness radius : Float) (tab : Tab) (p : Plate) (k : ℕ) → Below 6 thickness → Below 6 radius → TabGiven k tab p
+tab_radius_below : (thickness radius : Float) (tab : Option FinTab) (p : Plate) (k : ℕ) → Below 6 thickness → Below 6 radius
+    → TabGiven k tab p
     → tab_check tab p.root ≡ Ok tt
     → Below 27 (r1 (tab_integrals_of tab thickness radius))
 unfolding tab_integrals_of of_bits
 tab_radius_below thickness radius None p k t r h c = weaker (bits 0) 0 27 (lit≤ tt) zero_below
-tab_radius_below thickness radius (Slab height length offset) p k t r h c =
-    let s = Fins.tab_lengths height length offset p.root h.0.0 h.0.1 c in
-    let inner : Below 7 (radius ⊖ height) = sub_below radius height 6 (lit≤ tt) r s.0.length.below in
+tab_radius_below thickness radius (Some tab) p k t r h c =
+    let s = Fins.tab_lengths tab p.root h.0.0 h.0.1 c in
+    let inner : Below 7 (radius ⊖ tab.height_m) = sub_below radius tab.height_m 6 (lit≤ tt) r s.0.length.below in
     let outer : Below 14 (radius ⊗ radius) = weaker (radius ⊗ radius) 12 14 (lit≤ tt) (mul_below radius radius 6 6 (lit≤ tt) r r) in
-    let squares : Below 15 (radius ⊗ radius ⊖ (radius ⊖ height) ⊗ (radius ⊖ height)) =
-    sub_below (radius ⊗ radius) ((radius ⊖ height) ⊗ (radius ⊖ height)) 14 (lit≤ tt) outer
-    (mul_below (radius ⊖ height) (radius ⊖ height) 7 7 (lit≤ tt) inner inner) in
-    mul_below (thickness ⊗ length) (first_moment (radius ⊖ height) radius) 12 15 (lit≤ tt)
-    (mul_below thickness length 6 6 (lit≤ tt) t s.1.length.below)
-    (mul_below half (radius ⊗ radius ⊖ (radius ⊖ height) ⊗ (radius ⊖ height)) 0 15 (lit≤ tt) half_below squares)
+    let squares : Below 15 (radius ⊗ radius ⊖ (radius ⊖ tab.height_m) ⊗ (radius ⊖ tab.height_m)) =
+    sub_below (radius ⊗ radius) ((radius ⊖ tab.height_m) ⊗ (radius ⊖ tab.height_m)) 14 (lit≤ tt) outer
+    (mul_below (radius ⊖ tab.height_m) (radius ⊖ tab.height_m) 7 7 (lit≤ tt) inner inner) in
+    mul_below (thickness ⊗ tab.length_m) (first_moment (radius ⊖ tab.height_m) radius) 12 15 (lit≤ tt)
+    (mul_below thickness tab.length_m 6 6 (lit≤ tt) t s.1.length.below)
+    (mul_below half (radius ⊗ radius ⊖ (radius ⊖ tab.height_m) ⊗ (radius ⊖ tab.height_m)) 0 15 (lit≤ tt) half_below squares)
 
 -- ---- copies of a plate, turned and joined
 plate_centre : (v : List Float) (density base : Float) (count : ℕ)
@@ -488,13 +488,13 @@ above_by (fin false m e) (number q n d) X Y R l p i h k f a w =
     }
 
 -- ---- the call
-tab_volume_lem : (t : Tab) (thickness radius : Float) → (tab_integrals t thickness radius).volume ≡ tab_volume t thickness
+tab_volume_lem : (t : Option FinTab) (thickness radius : Float) → (tab_integrals t thickness radius).volume ≡ tab_volume t thickness
 tab_volume_lem None thickness radius = refl
-tab_volume_lem (Slab x y z) thickness radius = refl
+tab_volume_lem (Some t) thickness radius = refl
 
-tab_moment_lem : (t : Tab) (thickness radius : Float) → (tab_integrals t thickness radius).x1 ≡ tab_moment t thickness
+tab_moment_lem : (t : Option FinTab) (thickness radius : Float) → (tab_integrals t thickness radius).x1 ≡ tab_moment t thickness
 tab_moment_lem None thickness radius = refl
-tab_moment_lem (Slab x y z) thickness radius = refl
+tab_moment_lem (Some t) thickness radius = refl
 
 module _ (c : Class) (section : Section) (p : Plate) (m : Mount) (points : List Float) (L : ℕ) (start : List Float) (r : Figures)
     (exit : List Float) (plain_section : NotRounded section) (g : SectionGiven section p m points L start r exit)
@@ -543,9 +543,9 @@ module _ (c : Class) (section : Section) (p : Plate) (m : Mount) (points : List 
   beside : TabBeside (spans_in c) p.tab p (bits 0)
   beside = go p.tab tab
     where
-      go : (t : Tab) → TabGiven (spans_in c) t p → TabBeside (spans_in c) t p (bits 0)
+      go : (t : Option FinTab) → TabGiven (spans_in c) t p → TabBeside (spans_in c) t p (bits 0)
       go None h = tt
-      go (Slab x y z) h = (h, zero_under (num p.span) (den p.span))
+      go (Some t) h = (h, zero_under (num p.span) (den p.span))
 
   sizes : Sizes F c 64 1
   sizes = Fins.sizes section p m points L start r exit plain_section g radius_f64 c q (bits 0) 64 1 reached beside
@@ -562,11 +562,11 @@ module _ (c : Class) (section : Section) (p : Plate) (m : Mount) (points : List 
   unfolding tab_integrals_of
   tab_at_lem k e = go p.tab e
     where
-      go : (t : Tab) → (k ≡ 0) ⊎ (k ≡ 3)
+      go : (t : Option FinTab) → (k ≡ 0) ⊎ (k ≡ 3)
           → at (tab_integrals_of t p.thickness m.radius) k ≡ at (tab_integrals_of t p.thickness (bits 0)) k
       go None e = refl
-      go (Slab x y z) (inl e) = rw e
-      go (Slab x y z) (inr e) = rw e
+      go (Some t) (inl e) = rw e
+      go (Some t) (inr e) = rw e
 
   volume_is : volume v ≡ integral_at F 0
   volume_is = ap (λ (z : Float). z ⊗ cube S ⊕ at (tab_integrals_of p.tab p.thickness m.radius) 0) (total_is 0 (lit≤ tt))
@@ -629,10 +629,10 @@ module _ (c : Class) (section : Section) (p : Plate) (m : Mount) (points : List 
       (unit_of 0) [])
       (ranges_by_units 32 B₆ sizes.ranges (unit_of 0) []).least (enough c (is_foil section) p.tab) low.1 z.near.within
     where
-      enough : (c : Class) (foil : Bool) (tab : Tab) → error_in (shape_at c foil tab 0) + 2 ^ 53 ≤ least_parts foil * 2 ^ 53
+      enough : (c : Class) (foil : Bool) (tab : Option FinTab) → error_in (shape_at c foil tab 0) + 2 ^ 53 ≤ least_parts foil * 2 ^ 53
       enough = each_class (λ c foil tab. error_in (shape_at c foil tab 0) + 2 ^ 53 ≤ least_parts foil * 2 ^ 53) (lit≤ tt) (lit≤ tt)
-          (lit≤ tt) (lit≤ tt) (lit≤ tt) (lit≤ tt) (λ x y z. lit≤ tt) (λ x y z. lit≤ tt) (λ x y z. lit≤ tt) (λ x y z. lit≤ tt)
-          (λ x y z. lit≤ tt) (λ x y z. lit≤ tt)
+          (lit≤ tt) (lit≤ tt) (lit≤ tt) (lit≤ tt) (λ t. lit≤ tt) (λ t. lit≤ tt) (λ t. lit≤ tt) (λ t. lit≤ tt)
+          (λ t. lit≤ tt) (λ t. lit≤ tt)
 
   out_finite : T (finite (r1 v ⊘ volume v))
   out_finite = subst (λ (z : Float). T (finite (r1 v ⊘ z))) (sym volume_is)

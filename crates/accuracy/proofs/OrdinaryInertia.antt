@@ -1,5 +1,6 @@
 -- The inertia and the balance point of a single fin at base angle 0 that one piece is enough for, of square or airfoil section, with a tab
 -- or none: near the exact ones by computed bounds, from the seven integrals of proofs/SevenIntegrals. Assumes nothing.
+use Rattle.std.specs.Prelude.{Option, Some, None}
 use Rattle.accuracy.proofs.OrdinaryBalance.{neg_known}
 use mathlib.Core.Path.{◌≡◌, refl, sym, ap, ◌∙◌, subst}
 use mathlib.Core.Bool.{Bool, true, false, true≢false, ◌&&◌}
@@ -41,8 +42,7 @@ use Rattle.bodies.specs.Bodies.{rotated_of, inertia_about_of, of_origin_tensor}
 use Rattle.joins.specs.Joins.{join_of, sums_of, inertia_of, in_order}
 use Rattle.rings.specs.Rings.{joined_copies, rolled_copy}
 use Rattle.plates.specs.Plates.{plate_body}
-use Rattle.fins.specs.declared.Tab.{Tab}
-use Rattle.fins.specs.declared.Tab.TheVariants.{None, Slab}
+use Rattle.fins.specs.declared.FinTab.{FinTab}
 use Rattle.error_terms.proofs.Laws.{inverse_of}
 use Rattle.error_terms.proofs.Monomials.{place, mono, top, bottom}
 use Rattle.error_terms.proofs.Terms.{shape, Given, entry, larger, var, const, nought, value, AllKnown, numbers_of, unit_by}
@@ -72,7 +72,7 @@ use Rattle.accuracy.proofs.ToFractions.{AreFractions, expression_fraction}
 ruleset plain = (sorted, one-mul, mul-one, zero-mul, mul-zero, zero-add, add-zero)
 
 -- ---- V, r1, r2, −x1, x2, rx, tau2, density and mass, in the units of proofs/SevenIntegrals
-abbrev body_list : Bool → Tab → (ℕ → Float) → (ℕ → Number) → (density : Float) → List Given
+abbrev body_list : Bool → Option FinTab → (ℕ → Float) → (ℕ → Number) → (density : Float) → List Given
 body_list foil tab v n density =
     entry (v 0) (n 0) (shape_at far foil tab 0) (least_parts foil) ∷
     entry (v 1) (n 1) (shape_at far foil tab 1) 0 ∷
@@ -212,7 +212,7 @@ back_e = given 6 mul given 1
 pub data Test : Type 0 where
   test : Shared → Expression → ℕ → List ℕ → Test
 
-abbrev tests : Tab → List Test
+abbrev tests : Option FinTab → List Test
 tests tab =
     test (joined_s 0) out_e (outward_error tab) (place 4) ∷
     test (tensor_s 0) (tensor_e 0) (tensor_error tab) tensor_unit ∷
@@ -241,16 +241,16 @@ passes G M [] = true
 passes G M (test s e K p ∷ l) = nearer G e (K * 2 ^ 30) p [] (judge_in G M s) && passes G M l
 
 module _ (v : ℕ → Float) (n : ℕ → Number) (density : Float) where
-  abbrev Passes : Bool → Tab → Type 0
+  abbrev Passes : Bool → Option FinTab → Type 0
   Passes foil tab =
       T (passes (body_list foil tab v n density) (judge_all (body_list foil tab v n density) [] parts) (tests tab))
 
-  all_pass : (foil : Bool) (tab : Tab) → Passes foil tab
+  all_pass : (foil : Bool) (tab : Option FinTab) → Passes foil tab
   unfolding round of_bits
   all_pass false None = tt
-  all_pass false (Slab height length offset) = tt
+  all_pass false (Some tab) = tt
   all_pass true None = tt
-  all_pass true (Slab height length offset) = tt
+  all_pass true (Some tab) = tt
 
 -- ---- what is known
 zero_less : (v : Number) → minus v equals zero_number less v
@@ -304,7 +304,7 @@ abbrev turned_of : (ℕ → Float) → Float → Body
 turned_of v density = rotated_of (plate_body (list_of v) density) identity
 
 -- ---- its numbers are the terms' values
-module _ (foil : Bool) (tab : Tab) (v : ℕ → Float) (n : ℕ → Number) (density : Float) where
+module _ (foil : Bool) (tab : Option FinTab) (v : ℕ → Float) (n : ℕ → Number) (density : Float) where
   abbrev at_term : Shared → Float
   at_term s = value (body_list foil tab v n density) (expand [] (bind_all parts s))
 

@@ -1,4 +1,5 @@
 -- The mass of a set of one piece, of square or airfoil section: near the exact one by a computed bound. Assumes nothing.
+use Rattle.std.specs.Prelude.{Option, Some, None}
 use Rattle.accuracy.proofs.Limits.{ranges_to, least_of, lengths, most_under}
 use mathlib.Core.Path.{◌≡◌, refl, sym, ap, ◌∙◌, subst}
 use mathlib.Core.Bool.{Bool, ◌&&◌}
@@ -35,8 +36,7 @@ use Rattle.planforms.proofs.Sized.{Sized}
 use Rattle.limits.proofs.Lengths.{PositiveLength}
 use Rattle.integrands.proofs.Scales.{Scale}
 use Rattle.joins.specs.Joins.{in_order}
-use Rattle.fins.specs.declared.Tab.{Tab}
-use Rattle.fins.specs.declared.Tab.TheVariants.{None, Slab}
+use Rattle.fins.specs.declared.FinTab.{FinTab}
 use Rattle.fins.proofs.Accepted.{set_count}
 use Rattle.plates.specs.Integrals.{volume, tab_integrals_of}
 use Rattle.strips.specs.Strips.{value_from}
@@ -70,29 +70,29 @@ volume_s =
     (whole (nought (1 ∷ 1 ∷ 0 ∷ 1 ∷ []) (0 ∷ 0 ∷ 3 ∷ []))
     ⊞ total_s (1 ∷ 0 ∷ 0 ∷ 1 ∷ []) (0 ∷ 0 ∷ 2 ∷ []) (1 ∷ 1 ∷ 0 ∷ 1 ∷ []) (0 ∷ 0 ∷ 3 ∷ [])) ⊠ whole (var 4 mul_t (var 4 mul_t var 4))
 
-abbrev slab_s : Tab → Shared
+abbrev slab_s : Option FinTab → Shared
 slab_s None = whole (nought (1 ∷ 0 ∷ 0 ∷ 1 ∷ 0 ∷ 1 ∷ []) [])
-slab_s (Slab height length offset) = whole (var 5 mul_t var 7 mul_t var 8)
+slab_s (Some tab) = whole (var 5 mul_t var 7 mul_t var 8)
 
 -- in units of thickness·B·Y, as the span does not pass Y
-abbrev mass_s : Tab → Shared
+abbrev mass_s : Option FinTab → Shared
 mass_s tab = whole (var 6) ⊠ (raised_by 9 (tightly volume_s) ⊞ slab_s tab)
 
-abbrev slab_e : Tab → Expression
+abbrev slab_e : Option FinTab → Expression
 slab_e None = ratio 0 0
-slab_e (Slab height length offset) = (given 10 mul given 14) mul given 16
+slab_e (Some tab) = (given 10 mul given 14) mul given 16
 
-abbrev mass_e : Section → Tab → Expression
+abbrev mass_e : Section → Option FinTab → Expression
 mass_e section tab =
     given 12 mul (fraction_e (filled section) mul (given 10 mul (given 6 mul ((given 0 add given 2) mul ratio 1 1))) add slab_e tab)
 
-abbrev length_of : Tab → Float
+abbrev length_of : Option FinTab → Float
 length_of None = bits 0
-length_of (Slab height length offset) = length
+length_of (Some tab) = tab.length_m
 
-abbrev height_of : Tab → Float
+abbrev height_of : Option FinTab → Float
 height_of None = bits 0
-height_of (Slab height length offset) = height
+height_of (Some tab) = tab.height_m
 
 -- a unit and a 128th: twice that is what a fin's mass is at most
 abbrev half_most : ℕ
@@ -125,18 +125,18 @@ module _ (root tip sweep span scale thickness density length height : Float) whe
   abbrev G : List Given
   G = entries_of root tip sweep span scale thickness density length height
 
-  abbrev Passes : Section → Tab → Type 0
+  abbrev Passes : Section → Option FinTab → Type 0
   Passes section tab = T (mass_test G (mass_e section tab) (judge_in G (judge_all G [] (parts_of section 0)) (mass_s tab)))
 
-  passes : (section : Section) → NotRounded section → (tab : Tab) → Passes section tab
+  passes : (section : Section) → NotRounded section → (tab : Option FinTab) → Passes section tab
   unfolding round of_bits nodes kronrod_weights airfoil_constants
   passes Rounded e tab = absurd e
   passes Square e None = tt
-  passes Square e (Slab h l o) = tt
+  passes Square e (Some t) = tt
   passes Airfoil e None = tt
-  passes Airfoil e (Slab h l o) = tt
+  passes Airfoil e (Some t) = tt
   passes AirfoilOpen e None = tt
-  passes AirfoilOpen e (Slab h l o) = tt
+  passes AirfoilOpen e (Some t) = tt
 
   -- ---- the values of the terms are the program's sums
   abbrev low : Float
@@ -146,7 +146,7 @@ module _ (root tip sweep span scale thickness density length height : Float) whe
   high = span ⊘ scale
 
   -- one fin's mass, from the sum of the samples
-  abbrev mass_by : Float → Tab → Float → Float
+  abbrev mass_by : Float → Option FinTab → Float → Float
   mass_by total tab radius = density ⊗ (total ⊗ cube scale ⊕ volume (tab_integrals_of tab thickness radius))
 
   abbrev sampled : Section → Float → Float
@@ -158,7 +158,7 @@ zero_most : (b d : ℕ) → AtMost b d (bits 0)
 unfolding of_bits
 zero_most b d = record { finite = tt; size = omega arith }
 
-mass_is : (root tip sweep span scale thickness density radius : Float) (section : Section) → NotRounded section → (tab : Tab)
+mass_is : (root tip sweep span scale thickness density radius : Float) (section : Section) → NotRounded section → (tab : Option FinTab)
     → value (entries_of root tip sweep span scale thickness density (length_of tab) (height_of tab))
     (expand [] (bind_all (parts_of section 0) (mass_s tab)))
     ≡ mass_by root tip sweep span scale thickness density (length_of tab) (height_of tab)
@@ -166,11 +166,11 @@ mass_is : (root tip sweep span scale thickness density radius : Float) (section 
 unfolding weighted_to tab_integrals_of
 mass_is root tip sweep span scale thickness density radius Rounded e tab = absurd e
 mass_is root tip sweep span scale thickness density radius Square e None = refl
-mass_is root tip sweep span scale thickness density radius Square e (Slab h l o) = refl
+mass_is root tip sweep span scale thickness density radius Square e (Some t) = refl
 mass_is root tip sweep span scale thickness density radius Airfoil e None = refl
-mass_is root tip sweep span scale thickness density radius Airfoil e (Slab h l o) = refl
+mass_is root tip sweep span scale thickness density radius Airfoil e (Some t) = refl
 mass_is root tip sweep span scale thickness density radius AirfoilOpen e None = refl
-mass_is root tip sweep span scale thickness density radius AirfoilOpen e (Slab h l o) = refl
+mass_is root tip sweep span scale thickness density radius AirfoilOpen e (Some t) = refl
 
 -- ---- fractions
 fill_fraction : (x : ℕ → Number) (section : Section) → NotRounded section
@@ -238,13 +238,13 @@ module _ (section : Section) (p : Plate) (m : Mount) (points : List Float) (L : 
       below : (y e : ℕ) → y ≤ 64 * e → y ≤ e * 2 ^ 24
       below y e h = omega arith
 
-  length_most : (tab : Tab) → TabWithin tab b d y e → AtMost b d (length_of tab)
+  length_most : (tab : Option FinTab) → TabWithin tab b d y e → AtMost b d (length_of tab)
   length_most None w = zero_most b d
-  length_most (Slab h l o) w = w.0
+  length_most (Some t) w = w.0
 
-  height_most : (tab : Tab) → TabWithin tab b d y e → AtMost y e (height_of tab)
+  height_most : (tab : Option FinTab) → TabWithin tab b d y e → AtMost y e (height_of tab)
   height_most None w = zero_most y e
-  height_most (Slab h l o) w = w.1
+  height_most (Some t) w = w.1
 
   abbrev entries : List Given
   entries = entries_of p.root p.tip p.sweep p.span S p.thickness p.density (length_of p.tab) (height_of p.tab)
@@ -384,18 +384,18 @@ module _ (section : Section) (p : Plate) (m : Mount) (points : List Float) (L : 
       count_under c = record { below = omega arith; above = omega arith }
 
   -- ---- in fractions
-  slab_fraction : (tab : Tab) → TabWithin tab b d y e
+  slab_fraction : (tab : Option FinTab) → TabWithin tab b d y e
       → IsFraction (evaluate (numbers_of (entries_of p.root p.tip p.sweep p.span S p.thickness p.density (length_of tab)
       (height_of tab))) (slab_e tab))
       (tab_volume tab p.thickness)
   slab_fraction None w = whole_fraction 0 1
-  slab_fraction (Slab height length offset) w =
-      times_fraction (value_of p.thickness times value_of length) (value_of height)
-      (product (fraction_of p.thickness) (fraction_of length))
-      (fraction_of height)
-      (times_fraction (value_of p.thickness) (value_of length) (fraction_of p.thickness) (fraction_of length)
-      (value_fraction p.thickness (positive-finite p.thickness thick_positive)) (value_fraction length w.0.finite))
-      (value_fraction height w.1.finite)
+  slab_fraction (Some tab) w =
+      times_fraction (value_of p.thickness times value_of tab.length_m) (value_of tab.height_m)
+      (product (fraction_of p.thickness) (fraction_of tab.length_m))
+      (fraction_of tab.height_m)
+      (times_fraction (value_of p.thickness) (value_of tab.length_m) (fraction_of p.thickness) (fraction_of tab.length_m)
+      (value_fraction p.thickness (positive-finite p.thickness thick_positive)) (value_fraction tab.length_m w.0.finite))
+      (value_fraction tab.height_m w.1.finite)
 
   abbrev width : Number
   width = (value_of p.root plus value_of p.tip) times number 1 0 2

@@ -1,5 +1,6 @@
 -- The seven volume integrals of a fin that one piece is enough for and of its tab, of square or airfoil section, and its mass: near the
 -- exact ones by computed bounds. Assumes nothing.
+use Rattle.std.specs.Prelude.{Option, Some, None}
 use lib.ListN.{get_or}
 use mathlib.Core.Path.{◌≡◌, refl, sym, ap, subst}
 use mathlib.Core.Bool.{Bool, true, false, ◌&&◌}
@@ -22,8 +23,7 @@ use Rattle.gauss_kronrod.specs.Tables.{nodes, kronrod_weights}
 use Rattle.sections.specs.Airfoil.{airfoil_constants}
 use Rattle.sections.specs.declared.Section.{Section}
 use Rattle.sections.specs.declared.Section.TheVariants.{Square, Rounded, Airfoil, AirfoilOpen}
-use Rattle.fins.specs.declared.Tab.{Tab}
-use Rattle.fins.specs.declared.Tab.TheVariants.{None, Slab}
+use Rattle.fins.specs.declared.FinTab.{FinTab}
 use Rattle.plates.specs.Integrals.{tab_integrals_of}
 use Rattle.error_terms.proofs.Monomials.{place, added, mono, top, bottom, AllRanges}
 use Rattle.error_terms.proofs.Terms.{Shape, shape, sum_shape, product_shape, fine, ok, sum_test, Given, entry, larger, Term, var, const}
@@ -109,9 +109,9 @@ module _ (h l o k q : Expression) where
   slabs_e (suc (suc (suc (suc (suc zero))))) = slab_along_e mul mean_e
   slabs_e (suc (suc (suc (suc (suc (suc i)))))) = ((k mul k) mul ratio 1 11) mul slab_e
 
-abbrev pub tab_e : Tab → ℕ → Expression
+abbrev pub tab_e : Option FinTab → ℕ → Expression
 tab_e None i = ratio 0 0
-tab_e (Slab height length offset) i = slabs_e (given 6) (given 7) (given 8) (given 4) (given 5) i
+tab_e (Some tab) i = slabs_e (given 6) (given 7) (given 8) (given 4) (given 5) i
 
 -- ---- a fin and its tab
 pub record Fin : Type 0 where
@@ -123,7 +123,7 @@ pub record Fin : Type 0 where
   pub scale : Float
   pub thickness : Float
   pub radius : Float
-  pub tab : Tab
+  pub tab : Option FinTab
   pub density : Float
 
 -- how many root chords its tip and its sweep have at most, and how many spans the height of its tab
@@ -146,24 +146,24 @@ spans_in far = 1
 spans_in wide = 4
 
 -- what holds by class, by whether the section is an airfoil, and by the tab
-pub each_class : (P : Class → Bool → Tab → Type 0)
+pub each_class : (P : Class → Bool → Option FinTab → Type 0)
     → P near false None → P near true None → P far false None → P far true None → P wide false None → P wide true None
-    → ((x y z : Float) → P near false (Slab x y z)) → ((x y z : Float) → P near true (Slab x y z))
-    → ((x y z : Float) → P far false (Slab x y z)) → ((x y z : Float) → P far true (Slab x y z))
-    → ((x y z : Float) → P wide false (Slab x y z)) → ((x y z : Float) → P wide true (Slab x y z))
-    → (c : Class) (foil : Bool) (tab : Tab) → P c foil tab
+    → ((t : FinTab) → P near false (Some t)) → ((t : FinTab) → P near true (Some t))
+    → ((t : FinTab) → P far false (Some t)) → ((t : FinTab) → P far true (Some t))
+    → ((t : FinTab) → P wide false (Some t)) → ((t : FinTab) → P wide true (Some t))
+    → (c : Class) (foil : Bool) (tab : Option FinTab) → P c foil tab
 each_class P a b c d e f g h i j k l near false None = a
 each_class P a b c d e f g h i j k l near true None = b
 each_class P a b c d e f g h i j k l far false None = c
 each_class P a b c d e f g h i j k l far true None = d
 each_class P a b c d e f g h i j k l wide false None = e
 each_class P a b c d e f g h i j k l wide true None = f
-each_class P a b c d e f g h i j k l near false (Slab x y z) = g x y z
-each_class P a b c d e f g h i j k l near true (Slab x y z) = h x y z
-each_class P a b c d e f g h i j k l far false (Slab x y z) = i x y z
-each_class P a b c d e f g h i j k l far true (Slab x y z) = j x y z
-each_class P a b c d e f g h i j k l wide false (Slab x y z) = k x y z
-each_class P a b c d e f g h i j k l wide true (Slab x y z) = l x y z
+each_class P a b c d e f g h i j k l near false (Some t) = g t
+each_class P a b c d e f g h i j k l near true (Some t) = h t
+each_class P a b c d e f g h i j k l far false (Some t) = i t
+each_class P a b c d e f g h i j k l far true (Some t) = j t
+each_class P a b c d e f g h i j k l wide false (Some t) = k t
+each_class P a b c d e f g h i j k l wide true (Some t) = l t
 
 -- ---- the fin as terms: the variables of one_piece/proofs/PlatePiece, and a size that radius and span do not pass
 abbrev fin_list : Class → Fin → List Given
@@ -323,20 +323,20 @@ module _ (f : Fin) (height length offset : Float) where
 
 -- ---- what is known of their lengths
 -- length and offset of a tab do not pass the root chord, the radius not the span
-pub record TabSizes (f : Fin) (c : Class) (height length offset : Float) : Type 0 where
-  pub height_finite : T (finite height)
-  pub length_finite : T (finite length)
-  pub offset_finite : T (finite offset)
-  pub height_from_zero : NotBelow (value_of height)
-  pub length_from_zero : NotBelow (value_of length)
-  pub height_under : Under (spans_in c of size_of f.span) (value_of height)
-  pub length_under : Under (1 of size_of f.root) (value_of length)
-  pub offset_under : Under (1 of size_of f.root) (value_of offset)
+pub record TabSizes (f : Fin) (c : Class) (tab : FinTab) : Type 0 where
+  pub height_finite : T (finite tab.height_m)
+  pub length_finite : T (finite tab.length_m)
+  pub offset_finite : T (finite tab.offset_m)
+  pub height_from_zero : NotBelow (value_of tab.height_m)
+  pub length_from_zero : NotBelow (value_of tab.length_m)
+  pub height_under : Under (spans_in c of size_of f.span) (value_of tab.height_m)
+  pub length_under : Under (1 of size_of f.root) (value_of tab.length_m)
+  pub offset_under : Under (1 of size_of f.root) (value_of tab.offset_m)
   pub radius_under : Under (1 of size_of f.span) (value_of f.radius)
 
-abbrev pub TabKnown : Fin → Class → Tab → Type 0
+abbrev pub TabKnown : Fin → Class → Option FinTab → Type 0
 TabKnown f c None = Unit {0}
-TabKnown f c (Slab height length offset) = TabSizes f c height length offset
+TabKnown f c (Some tab) = TabSizes f c tab
 
 pub record Sizes (f : Fin) (c : Class) (b d : ℕ) : Type 0 where
   pub plain_section : NotRounded f.section
@@ -360,9 +360,9 @@ pub record Sizes (f : Fin) (c : Class) (b d : ℕ) : Type 0 where
   pub ranges : AllRanges 32 (size_of f.root ∷ size_of f.span ∷ size_of f.scale ∷ size_of f.thickness ∷ (b per d) ∷ size_of
       f.density ∷ [])
 
-abbrev pub tab_numbers : Tab → List Number
+abbrev pub tab_numbers : Option FinTab → List Number
 tab_numbers None = []
-tab_numbers (Slab height length offset) = value_of height ∷ value_of length ∷ value_of offset ∷ []
+tab_numbers (Some tab) = value_of tab.height_m ∷ value_of tab.length_m ∷ value_of tab.offset_m ∷ []
 
 -- root, tip, span, sweep, thickness, radius, and height, length and offset of a tab
 abbrev pub numbers_in : Fin → List Number
@@ -385,9 +385,9 @@ numbers_all f =
     let v = Counts.value_is in
     (v f.root, (v f.tip, (v f.span, (v f.sweep, (v f.thickness, (v f.radius, rest f.tab))))))
   where
-    rest : (t : Tab) → AllNumbers (tab_numbers t)
+    rest : (t : Option FinTab) → AllNumbers (tab_numbers t)
     rest None = tt
-    rest (Slab h l o) = (Counts.value_is h, (Counts.value_is l, (Counts.value_is o, tt)))
+    rest (Some t) = (Counts.value_is t.height_m, (Counts.value_is t.length_m, (Counts.value_is t.offset_m, tt)))
 
 -- the f64s, from the sums of one piece's samples
 abbrev pub total_at : Fin → Section → ℕ → Float
@@ -409,18 +409,18 @@ integral_at f i = fin_at f f.section i ⊕ tab_at f i
 abbrev fin_shape : Class → Bool → ℕ → Shape
 fin_shape c foil i = shape (fin_error c i * 2 ^ 30) (fin_size c foil i * 2 ^ 20) (unit_of i) []
 
-abbrev tab_error : Class → Tab → ℕ → ℕ
+abbrev tab_error : Class → Option FinTab → ℕ → ℕ
 tab_error c None i = 0
-tab_error c (Slab height length offset) i = spans_in c * slab_error i
+tab_error c (Some tab) i = spans_in c * slab_error i
 
-abbrev tab_size : Class → Tab → ℕ → ℕ
+abbrev tab_size : Class → Option FinTab → ℕ → ℕ
 tab_size c None i = 0
-tab_size c (Slab height length offset) i = spans_in c * slab_size i
+tab_size c (Some tab) i = spans_in c * slab_size i
 
-abbrev tab_shape : Class → Tab → ℕ → Shape
+abbrev tab_shape : Class → Option FinTab → ℕ → Shape
 tab_shape c tab i = shape (tab_error c tab i * 2 ^ 30) (tab_size c tab i * 2 ^ 20) (unit_of i) []
 
-abbrev pub shape_at : Class → Bool → Tab → ℕ → Shape
+abbrev pub shape_at : Class → Bool → Option FinTab → ℕ → Shape
 shape_at c foil tab i = sum_shape (fin_shape c foil i) (tab_shape c tab i)
 
 -- the volume is at least so many parts of its unit
@@ -431,10 +431,10 @@ less_parts true = 365000000
 abbrev pub least_parts : Bool → ℕ
 least_parts foil = suc (less_parts foil)
 
-abbrev sum_fine : Class → Bool → Tab → ℕ → Bool
+abbrev sum_fine : Class → Bool → Option FinTab → ℕ → Bool
 sum_fine c foil tab i = (fine (fin_shape c foil i) && fine (tab_shape c tab i)) && sum_test (fin_shape c foil i) (tab_shape c tab i)
 
-sums_fine : (c : Class) (foil : Bool) (tab : Tab) (i : ℕ) → i < 7 → T (sum_fine c foil tab i)
+sums_fine : (c : Class) (foil : Bool) (tab : Option FinTab) (i : ℕ) → i < 7 → T (sum_fine c foil tab i)
 sums_fine = each_class (λ c foil tab. (i : ℕ) → i < 7 → T (sum_fine c foil tab i))
     (each_of_seven (λ i. T (sum_fine near false None i)) tt tt tt tt tt tt tt)
     (each_of_seven (λ i. T (sum_fine near true None i)) tt tt tt tt tt tt tt)
@@ -442,15 +442,15 @@ sums_fine = each_class (λ c foil tab. (i : ℕ) → i < 7 → T (sum_fine c foi
     (each_of_seven (λ i. T (sum_fine far true None i)) tt tt tt tt tt tt tt)
     (each_of_seven (λ i. T (sum_fine wide false None i)) tt tt tt tt tt tt tt)
     (each_of_seven (λ i. T (sum_fine wide true None i)) tt tt tt tt tt tt tt)
-    (λ x y z. each_of_seven (λ i. T (sum_fine near false (Slab x y z) i)) tt tt tt tt tt tt tt)
-    (λ x y z. each_of_seven (λ i. T (sum_fine near true (Slab x y z) i)) tt tt tt tt tt tt tt)
-    (λ x y z. each_of_seven (λ i. T (sum_fine far false (Slab x y z) i)) tt tt tt tt tt tt tt)
-    (λ x y z. each_of_seven (λ i. T (sum_fine far true (Slab x y z) i)) tt tt tt tt tt tt tt)
-    (λ x y z. each_of_seven (λ i. T (sum_fine wide false (Slab x y z) i)) tt tt tt tt tt tt tt)
-    (λ x y z. each_of_seven (λ i. T (sum_fine wide true (Slab x y z) i)) tt tt tt tt tt tt tt)
+    (λ t. each_of_seven (λ i. T (sum_fine near false (Some t) i)) tt tt tt tt tt tt tt)
+    (λ t. each_of_seven (λ i. T (sum_fine near true (Some t) i)) tt tt tt tt tt tt tt)
+    (λ t. each_of_seven (λ i. T (sum_fine far false (Some t) i)) tt tt tt tt tt tt tt)
+    (λ t. each_of_seven (λ i. T (sum_fine far true (Some t) i)) tt tt tt tt tt tt tt)
+    (λ t. each_of_seven (λ i. T (sum_fine wide false (Some t) i)) tt tt tt tt tt tt tt)
+    (λ t. each_of_seven (λ i. T (sum_fine wide true (Some t) i)) tt tt tt tt tt tt tt)
 
 -- root, tip, span, thickness and what a tab adds
-abbrev volume_list : Class → Fin → Float → Number → Tab → List Given
+abbrev volume_list : Class → Fin → Float → Number → Option FinTab → List Given
 volume_list c f slab v tab =
     entry f.root (value_of f.root) (shape 0 full (place 0) []) full ∷
     entry f.tip (value_of f.tip) (shape 0 (tips_in c * 2 ^ 30) (place 0) []) 0 ∷
@@ -469,10 +469,10 @@ error_in (shape k i p q) = k
 abbrev pub mass_unit : List ℕ
 mass_unit = 1 ∷ 1 ∷ 0 ∷ 1 ∷ 0 ∷ 1 ∷ []
 
-abbrev pub mass_shape : Class → Bool → Tab → Shape
+abbrev pub mass_shape : Class → Bool → Option FinTab → Shape
 mass_shape c foil tab = product_shape (shape 0 full (place 5) []) (shape_at c foil tab 0)
 
-abbrev pub mass_list : Class → Bool → Tab → Float → Number → (density : Float) → List Given
+abbrev pub mass_list : Class → Bool → Option FinTab → Float → Number → (density : Float) → List Given
 mass_list c foil tab v n density =
     entry v n (shape_at c foil tab 0) (least_parts foil) ∷ entry density (value_of density) (shape 0 full (place 5) []) full ∷ []
 
@@ -480,31 +480,31 @@ abbrev mass_term : Term
 mass_term = var 1 mul_t var 0
 
 module _ (x : Float) (v : Number) (f : Fin) where
-  abbrev LeastVolume : Section → Class → Tab → Type 0
+  abbrev LeastVolume : Section → Class → Option FinTab → Type 0
   LeastVolume s c tab =
       T (low_test (volume_list c f x v tab) (volume_target s) (error_in (shape_at c (is_foil s) tab 0)) (less_parts (is_foil s))
       (unit_of 0) [])
 
-  volumes_least : (s : Section) → NotRounded s → (c : Class) (tab : Tab) → LeastVolume s c tab
-  volumes_least = plain_sections (λ s. (c : Class) (tab : Tab) → LeastVolume s c tab)
-      (λ c tab. each_class (λ a b d. LeastVolume Square a d) tt tt tt tt tt tt (λ x y z. tt) (λ x y z. tt) (λ x y z. tt) (λ x y z. tt) (λ
-      x y z. tt) (λ x y z. tt) c false tab)
-      (λ c tab. each_class (λ a b d. LeastVolume Airfoil a d) tt tt tt tt tt tt (λ x y z. tt) (λ x y z. tt) (λ x y z. tt) (λ x y z. tt) (λ
-      x y z. tt) (λ x y z. tt) c true tab)
-      (λ c tab. each_class (λ a b d. LeastVolume AirfoilOpen a d) tt tt tt tt tt tt (λ x y z. tt) (λ x y z. tt) (λ x y z. tt) (λ x y z.
-      tt) (λ x y z. tt) (λ x y z. tt) c true tab)
+  volumes_least : (s : Section) → NotRounded s → (c : Class) (tab : Option FinTab) → LeastVolume s c tab
+  volumes_least = plain_sections (λ s. (c : Class) (tab : Option FinTab) → LeastVolume s c tab)
+      (λ c tab. each_class (λ a b d. LeastVolume Square a d) tt tt tt tt tt tt
+      (λ t. tt) (λ t. tt) (λ t. tt) (λ t. tt) (λ t. tt) (λ t. tt) c false tab)
+      (λ c tab. each_class (λ a b d. LeastVolume Airfoil a d) tt tt tt tt tt tt
+      (λ t. tt) (λ t. tt) (λ t. tt) (λ t. tt) (λ t. tt) (λ t. tt) c true tab)
+      (λ c tab. each_class (λ a b d. LeastVolume AirfoilOpen a d) tt tt tt tt tt tt
+      (λ t. tt) (λ t. tt) (λ t. tt) (λ t. tt) (λ t. tt) (λ t. tt) c true tab)
 
-  mass_okay : (c : Class) (foil : Bool) (tab : Tab) → T (ok (mass_list c foil tab x v f.density) mass_term)
-  mass_okay = each_class (λ c foil tab. T (ok (mass_list c foil tab x v f.density) mass_term)) tt tt tt tt tt tt (λ x y z. tt) (λ x y z.
-      tt) (λ x y z. tt) (λ x y z. tt) (λ x y z. tt) (λ x y z. tt)
+  mass_okay : (c : Class) (foil : Bool) (tab : Option FinTab) → T (ok (mass_list c foil tab x v f.density) mass_term)
+  mass_okay = each_class (λ c foil tab. T (ok (mass_list c foil tab x v f.density) mass_term)) tt tt tt tt tt tt
+      (λ t. tt) (λ t. tt) (λ t. tt) (λ t. tt) (λ t. tt) (λ t. tt)
 
-  abbrev LeastMass : Class → Bool → Tab → Type 0
+  abbrev LeastMass : Class → Bool → Option FinTab → Type 0
   LeastMass c foil tab =
       T (low_test (mass_list c foil tab x v f.density) (given 2 mul given 0) (error_in (mass_shape c foil tab)) (less_parts foil)
       mass_unit [])
 
-  mass_least : (c : Class) (foil : Bool) (tab : Tab) → LeastMass c foil tab
-  mass_least = each_class LeastMass tt tt tt tt tt tt (λ x y z. tt) (λ x y z. tt) (λ x y z. tt) (λ x y z. tt) (λ x y z. tt) (λ x y z. tt)
+  mass_least : (c : Class) (foil : Bool) (tab : Option FinTab) → LeastMass c foil tab
+  mass_least = each_class LeastMass tt tt tt tt tt tt (λ t. tt) (λ t. tt) (λ t. tt) (λ t. tt) (λ t. tt) (λ t. tt)
 
 -- what is tested: of the far ones all seven, else volume and x1
 abbrev pub IsFar : Class → Type 0
@@ -596,18 +596,18 @@ module _ (f : Fin) (c : Class) (b d : ℕ) (g : Sizes f c b d) where
       (tested AirfoilOpen tt 5 (lit≤ tt)) (tested AirfoilOpen tt 6 (lit≤ tt)))
 
   -- ---- the tab
-  module _ (height length offset : Float) (t : TabSizes f c height length offset) where
+  module _ (tab : FinTab) (t : TabSizes f c tab) where
     abbrev slabs : List Given
-    slabs = tab_list c height length offset f.thickness f.radius
+    slabs = tab_list c tab.height_m tab.length_m tab.offset_m f.thickness f.radius
 
     slabs_known : AllKnown bases slabs
     unfolding of_bits
     slabs_known =
         let P = f.span in
         let R = f.root in
-        let tall = many_entry bases 1 (num P) (den P) refl height (spans_in c) (den_pos P) t.height_finite t.height_under in
-        let long = sized_entry bases 0 (num R) (den R) refl length (den_pos R) t.length_finite t.length_under in
-        let behind = sized_entry bases 0 (num R) (den R) refl offset (den_pos R) t.offset_finite t.offset_under in
+        let tall = many_entry bases 1 (num P) (den P) refl tab.height_m (spans_in c) (den_pos P) t.height_finite t.height_under in
+        let long = sized_entry bases 0 (num R) (den R) refl tab.length_m (den_pos R) t.length_finite t.length_under in
+        let behind = sized_entry bases 0 (num R) (den R) refl tab.offset_m (den_pos R) t.offset_finite t.offset_under in
         let thickness = own_entry bases 3 f.thickness refl g.thickness_positive in
         let radius = sized_entry bases 1 (num P) (den P) refl f.radius (den_pos P) g.radius_finite t.radius_under in
         ((tall, tt), ((long, tt), ((behind, tt), (thickness, ((radius, tt), (g.span_most, tt))))))
@@ -615,25 +615,25 @@ module _ (f : Fin) (c : Class) (b d : ℕ) (g : Sizes f c b d) where
     abbrev slab_numbers : List Number
     slab_numbers =
         value_of f.root ∷ value_of f.tip ∷ value_of f.span ∷ value_of f.sweep ∷ value_of f.thickness ∷ value_of f.radius ∷
-        value_of height ∷ value_of length ∷ value_of offset ∷ []
+        value_of tab.height_m ∷ value_of tab.length_m ∷ value_of tab.offset_m ∷ []
 
     abbrev slab_in : ℕ → Expression
     slab_in i = slabs_e (given 6) (given 7) (given 8) (given 4) (given 5) i
 
     by_slab : (i : ℕ) → i < 7 → Tested c i
-        → Known bases (value slabs (slab_t i)) (evaluate (numbers_of slabs) (slab_target i)) (tab_shape c (Slab height length offset) i)
+        → Known bases (value slabs (slab_t i)) (evaluate (numbers_of slabs) (slab_target i)) (tab_shape c (Some tab) i)
     by_slab i l s =
         let K = spans_in c * slab_error i * 2 ^ 30 in
         let j = spans_in c * slab_size i * 2 ^ 20 in
         let x = nearer slabs (slab_target i) K (unit_of i) [] (judge slabs (slab_t i)) in
         let y = size_test slabs (slab_target i) j (unit_of i) [] in
-        let z = slab_passes f height length offset c i l s in
+        let z = slab_passes f tab.height_m tab.length_m tab.offset_m c i l s in
         target_known bases g.ranges slabs slabs_known _ (slab_target i) K j (unit_of i) []
         (near_within bases g.ranges slabs slabs_known (slab_t i) (slab_target i) K (unit_of i) [] (and_l x y z)) (and_r x y z)
 
     abbrev SlabKnown : ℕ → Type 0
-    SlabKnown i = Known bases (at (tab_integrals_of (Slab height length offset) f.thickness f.radius) i)
-        (evaluate (among slab_numbers) (slab_in i)) (tab_shape c (Slab height length offset) i)
+    SlabKnown i = Known bases (at (tab_integrals_of (Some tab) f.thickness f.radius) i)
+        (evaluate (among slab_numbers) (slab_in i)) (tab_shape c (Some tab) i)
 
     slab_known : (i : ℕ) → i < 7 → Tested c i → SlabKnown i
     unfolding tab_integrals_of
@@ -651,10 +651,11 @@ module _ (f : Fin) (c : Class) (b d : ℕ) (g : Sizes f c b d) where
       → Known bases (tab_at f i) (evaluate (among (numbers_in f)) (tab_e f.tab i)) (tab_shape c f.tab i)
   tab_known_lem i l s = go f.tab refl
     where
-      go : (t : Tab) → f.tab ≡ t → Known bases (tab_at f i) (evaluate (among (numbers_in f)) (tab_e f.tab i)) (tab_shape c f.tab i)
+      go : (t : Option FinTab) → f.tab ≡ t
+          → Known bases (tab_at f i) (evaluate (among (numbers_in f)) (tab_e f.tab i)) (tab_shape c f.tab i)
       go None e = rw e (none_known i l)
-      go (Slab height length offset) e =
-          rw e (slab_known height length offset (subst (λ (t : Tab). TabKnown f c t) e g.tab) i l s)
+      go (Some tab) e =
+          rw e (slab_known tab (subst (λ (t : Option FinTab). TabKnown f c t) e g.tab) i l s)
 
   -- the integrals that the program works with
   pub seven_known : (i : ℕ) → i < 7 → Tested c i → Known bases (integral_at f i) (exactly f i) (shape_at c foil f.tab i)
@@ -672,12 +673,12 @@ module _ (f : Fin) (c : Class) (b d : ℕ) (g : Sizes f c b d) where
   tab_from_zero : NotBelow (evaluate (among (numbers_in f)) (tab_e f.tab 0))
   tab_from_zero = go f.tab refl
     where
-      go : (t : Tab) → f.tab ≡ t → NotBelow (evaluate (among (numbers_in f)) (tab_e f.tab 0))
+      go : (t : Option FinTab) → f.tab ≡ t → NotBelow (evaluate (among (numbers_in f)) (tab_e f.tab 0))
       go None e = rw e zero-le
-      go (Slab height length offset) e =
-          let t = subst (λ (t : Tab). TabKnown f c t) e g.tab in
-          rw e (not_below_times (value_of f.thickness times value_of length) (value_of height)
-          (not_below_times (value_of f.thickness) (value_of length) (positive_from f.thickness g.thickness_positive)
+      go (Some tab) e =
+          let t = subst (λ (t : Option FinTab). TabKnown f c t) e g.tab in
+          rw e (not_below_times (value_of f.thickness times value_of tab.length_m) (value_of tab.height_m)
+          (not_below_times (value_of f.thickness) (value_of tab.length_m) (positive_from f.thickness g.thickness_positive)
           t.length_from_zero)
           t.height_from_zero)
 

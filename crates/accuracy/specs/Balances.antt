@@ -2,7 +2,7 @@
 -- airfoils, with a tab or none, no fillet and no cant. The axis points forward from the leading edge of the root: what
 -- lies aft of that has a coordinate below 0. Both sides are multiplied by the mass, since the fractions here have no
 -- division.
-use Rattle.std.specs.Prelude.{◌≡◌, true, List, ℕ, ◌*◌, ◌^◌, T, pos, Float}
+use Rattle.std.specs.Prelude.{◌≡◌, true, List, ℕ, ◌*◌, ◌^◌, T, pos, Float, Option, Some, None}
 use Rattle.std.specs.Float.{binary64}
 use Rattle.std.specs.Float.Ieee.{fits, eq}
 use Rattle.std.specs.Float.Ieee.Positive.{num, den}
@@ -13,8 +13,7 @@ use Rattle.rounding_error.specs.Distances.{Within}
 use Rattle.sections.specs.Airfoil.{closed_tail, open_tail, phi_exactly}
 use Rattle.sections.specs.declared.Section.{Section}
 use Rattle.sections.specs.declared.Section.TheVariants.{Square, Rounded, Airfoil, AirfoilOpen}
-use Rattle.fins.specs.declared.Tab.{Tab}
-use Rattle.fins.specs.declared.Tab.TheVariants.{None, Slab}
+use Rattle.fins.specs.declared.FinTab.{FinTab}
 use Rattle.figures.specs.declared.Figures.{Figures}
 use Rattle.one_piece.specs.OnePiece.{NotRounded}
 use Rattle.accuracy.specs.Masses.{Plate, Mount, SectionGiven, OneStrip, exact_mass, filled}
@@ -39,11 +38,11 @@ fin_moment section p =
 
 -- the moment of a tab's volume about the leading edge of the root: thickness·height·length·(offset + length/2), and 0
 -- where there is no tab
-abbrev pub tab_moment : Tab → Float → Fraction
+abbrev pub tab_moment : Option FinTab → Float → Fraction
 tab_moment None thickness = pos 0 over 1
-tab_moment (Slab height length offset) thickness =
-    value_of thickness times value_of height times
-    (value_of length times (value_of offset plus value_of length times (pos 1 over 2)))
+tab_moment (Some tab) thickness =
+    value_of thickness times value_of tab.height_m times
+    (value_of tab.length_m times (value_of tab.offset_m plus value_of tab.length_m times (pos 1 over 2)))
 
 -- the exact moment of a whole set: count·density·moment of a fin with its tab
 abbrev pub exact_moment : Section → Plate → Mount → Fraction
@@ -53,17 +52,17 @@ exact_moment section p m =
 
 -- height and length of a tab are f64s, its length and |offset| are at most the root chord, its height at most `spans`
 -- spans
-abbrev pub TabGiven : ℕ → Tab → Plate → Type 0
+abbrev pub TabGiven : ℕ → Option FinTab → Plate → Type 0
 TabGiven spans None p = Unit {0}
-TabGiven spans (Slab height length offset) p =
-    (T (fits binary64 height) × T (fits binary64 length))
-    × ((AtMost (num p.root) (den p.root) length × AtMost (num p.root) (den p.root) offset)
-    × AtMost (spans * num p.span) (den p.span) height)
+TabGiven spans (Some tab) p =
+    (T (fits binary64 tab.height_m) × T (fits binary64 tab.length_m))
+    × ((AtMost (num p.root) (den p.root) tab.length_m × AtMost (num p.root) (den p.root) tab.offset_m)
+    × AtMost (spans * num p.span) (den p.span) tab.height_m)
 
 -- the number `without` for a fin that has no tab, and `with` for one that has
-abbrev pub by_tab : ℕ → ℕ → Tab → ℕ
+abbrev pub by_tab : ℕ → ℕ → Option FinTab → ℕ
 by_tab without with None = without
-by_tab without with (Slab height length offset) = with
+by_tab without with (Some tab) = with
 
 -- the theorem: in every set of one piece with no cant, whose tip is at most `tips` and |sweep| at most `sweeps` root
 -- chords, and whose tab is at most `spans` spans deep, the balance point is at most `without` unit roundoffs (2^-53) of

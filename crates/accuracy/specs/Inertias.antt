@@ -2,7 +2,7 @@
 -- point from the body's axis: a trapezoid of square or airfoil section, with a tab or none, no fillet, no cant, base
 -- angle 0. Its points lie at (r, τ, −x): r from the body's axis, τ through the thickness, x along the root from its
 -- leading edge. Both sides are multiplied by the volume, since the fractions here have no division.
-use Rattle.std.specs.Prelude.{◌≡◌, true, List, ℕ, ◌*◌, ◌^◌, ◌≤◌, ◌<◌, T, pos, Float}
+use Rattle.std.specs.Prelude.{◌≡◌, true, List, ℕ, ◌*◌, ◌^◌, ◌≤◌, ◌<◌, T, pos, Float, Option, Some, None}
 use Rattle.std.specs.Float.{binary64}
 use Rattle.std.specs.Float.Ieee.{fits, eq}
 use Rattle.std.specs.Float.Ieee.Positive.{num, den}
@@ -16,8 +16,7 @@ use Rattle.sections.specs.declared.Section.TheVariants.{Square, Rounded, Airfoil
 use Rattle.bodies.specs.declared.Tensor.{Tensor}
 use Rattle.bodies.specs.declared.Vector.{Vector}
 use Rattle.bodies.specs.Tensors.{number_at}
-use Rattle.fins.specs.declared.Tab.{Tab}
-use Rattle.fins.specs.declared.Tab.TheVariants.{None, Slab}
+use Rattle.fins.specs.declared.FinTab.{FinTab}
 use Rattle.figures.specs.declared.Figures.{Figures}
 use Rattle.one_piece.specs.OnePiece.{NotRounded}
 use Rattle.accuracy.specs.Centroids.{in_height}
@@ -145,7 +144,7 @@ mean_along_square length offset =
     plus square (value_of length) times (pos 1 over 3)
 
 -- the integrals of a tab, all 0 where there is none
-abbrev pub tab_integrals : Tab → Float → Float → Integrals
+abbrev pub tab_integrals : Option FinTab → Float → Float → Integrals
 tab_integrals None thickness radius =
     record {
       volume = pos 0 over 1;
@@ -156,16 +155,17 @@ tab_integrals None thickness radius =
       rx = pos 0 over 1;
       tau2 = pos 0 over 1;
     }
-tab_integrals (Slab height length offset) thickness radius =
-    let slab = Slab height length offset in
+tab_integrals (Some tab) thickness radius =
+    let volume = tab_volume (Some tab) thickness in
+    let moment = tab_moment (Some tab) thickness in
     record {
-      volume = tab_volume slab thickness;
-      r1 = tab_volume slab thickness times mean_radius height radius;
-      r2 = tab_volume slab thickness times mean_radius_square height radius;
-      x1 = tab_moment slab thickness;
-      x2 = tab_volume slab thickness times mean_along_square length offset;
-      rx = tab_moment slab thickness times mean_radius height radius;
-      tau2 = through_thickness thickness (tab_volume slab thickness);
+      volume = volume;
+      r1 = volume times mean_radius tab.height_m radius;
+      r2 = volume times mean_radius_square tab.height_m radius;
+      x1 = moment;
+      x2 = volume times mean_along_square tab.length_m tab.offset_m;
+      rx = moment times mean_radius tab.height_m radius;
+      tau2 = through_thickness thickness volume;
     }
 
 -- ---- fin and tab together
@@ -215,10 +215,10 @@ pub record Alone (p : Plate) (m : Mount) (b d : ℕ) : Type 0 where
   pub thickness_most : AtMost b d p.thickness
 
 -- where there is a tab, it is at most `spans` spans deep (`TabGiven`), and the body's radius is at most the span
-abbrev pub TabBeside : ℕ → Tab → Plate → Float → Type 0
+abbrev pub TabBeside : ℕ → Option FinTab → Plate → Float → Type 0
 TabBeside spans None p radius = Unit {0}
-TabBeside spans (Slab height length offset) p radius =
-    TabGiven spans (Slab height length offset) p × AtMost (num p.span) (den p.span) radius
+TabBeside spans (Some tab) p radius =
+    TabGiven spans (Some tab) p × AtMost (num p.span) (den p.span) radius
 
 -- x is at most `roundoffs` unit roundoffs (2^-53) of density·thickness·root·span·L² from the exact number
 abbrev pub NumberNear : Section → Plate → Mount → ℕ → ℕ → ℕ → Float → Fraction → Type 0
@@ -248,15 +248,15 @@ pub record OffAxisNear (section : Section) (p : Plate) (m : Mount) (b d roundoff
 
 -- by how many unit roundoffs the tensor of a fin in one piece may be off: of a fin that has no tab, of one that has a
 -- tab
-abbrev pub tensor_error : Tab → ℕ
+abbrev pub tensor_error : Option FinTab → ℕ
 tensor_error None = 60000
-tensor_error (Slab height length offset) = 350000
+tensor_error (Some tab) = 350000
 
 -- by how many unit roundoffs the balance point's distance from the axis may be off: of a fin that has no tab, of one
 -- that has a tab
-abbrev pub outward_error : Tab → ℕ
+abbrev pub outward_error : Option FinTab → ℕ
 outward_error None = 6000
-outward_error (Slab height length offset) = 30000
+outward_error (Some tab) = 30000
 
 pub record FinNear (section : Section) (p : Plate) (m : Mount) (b d : ℕ) (r : Figures) : Type 0 where
   pub tensor : TensorNear section p m b d (tensor_error p.tab) r.body.inertia_kg_m2

@@ -1,6 +1,6 @@
 -- How near the mass of a set of trapezoids, each worked in one piece, is to the exact one: square sections and
 -- airfoils, with a tab or none and no fillet, whatever the cant.
-use Rattle.std.specs.Prelude.{◌≡◌, true, List, ◌⊎◌, ℕ, ◌*◌, ◌^◌, ◌≤◌, ◌<◌, T, pos, Float, Ok}
+use Rattle.std.specs.Prelude.{◌≡◌, true, List, ◌⊎◌, ℕ, ◌*◌, ◌^◌, ◌≤◌, ◌<◌, T, pos, Float, Ok, Option, Some, None}
 use Rattle.std.specs.Float.{binary64}
 use Rattle.std.specs.Float.Ieee.{fits, lt}
 use Rattle.std.specs.Float.Ieee.Positive.{num, den}
@@ -16,8 +16,7 @@ use Rattle.planforms.specs.declared.Planform.TheVariants.{Trapezoid}
 use Rattle.fillets.specs.declared.Fillet.{Fillet}
 use Rattle.fillets.specs.Fillets.{is_none}
 use Rattle.fins.specs.declared.FinSet.{FinSet}
-use Rattle.fins.specs.declared.Tab.{Tab}
-use Rattle.fins.specs.declared.Tab.TheVariants.{None, Slab}
+use Rattle.fins.specs.declared.FinTab.{FinTab}
 use Rattle.figures.specs.Answers.{SetAnswers}
 use Rattle.figures.specs.declared.Figures.{Figures}
 use Rattle.one_piece.specs.OnePiece.{NotRounded, tips_of, Proportions}
@@ -30,7 +29,7 @@ pub record Plate : Type 0 where
   pub span : Float
   pub sweep : Float
   pub thickness : Float
-  pub tab : Tab
+  pub tab : Option FinTab
   pub density : Float
 
 -- how the fins are mounted: how many, at which angles, on a body of which radius, with which fillet
@@ -84,14 +83,14 @@ fin_volume p =
     (value_of p.span times ((value_of p.root plus value_of p.tip) times (pos 1 over 2)))
 
 -- the volume of a tab: thickness·length·height, and 0 where there is none
-abbrev pub tab_volume : Tab → Float → Fraction
+abbrev pub tab_volume : Option FinTab → Float → Fraction
 tab_volume None thickness = pos 0 over 1
-tab_volume (Slab height length offset) thickness = value_of thickness times value_of length times value_of height
+tab_volume (Some tab) thickness = value_of thickness times value_of tab.length_m times value_of tab.height_m
 
 -- where there is a tab, its length is at most b / d and its height at most y / e
-abbrev pub TabWithin : Tab → ℕ → ℕ → ℕ → ℕ → Type 0
+abbrev pub TabWithin : Option FinTab → ℕ → ℕ → ℕ → ℕ → Type 0
 TabWithin None b d y e = Unit {0}
-TabWithin (Slab height length offset) b d y e = AtMost b d length × AtMost y e height
+TabWithin (Some tab) b d y e = AtMost b d tab.length_m × AtMost y e tab.height_m
 
 -- root, tip, |sweep| and the length of a tab are at most B = b / d, span and the height of a tab at most Y = y / e; B
 -- and Y are at most 64

@@ -24,7 +24,7 @@ use Rattle.materials.specs.Numbered.{numbered_density}
 use Rattle.fillets.specs.declared.Fillet.{Fillet}
 use Rattle.fillets.specs.Numbered.{fillet_of}
 use Rattle.fins.specs.declared.FinSet.{FinSet}
-use Rattle.fins.specs.declared.Tab.{Tab}
+use Rattle.fins.specs.declared.FinTab.{FinTab}
 use Rattle.fins.specs.Numbered.{tab_of, numbered_set}
 use Rattle.templates.specs.Matching.{Reading, failed, reading, take_text, take_each}
 use Rattle.templates.proofs.F64s.{text_taken}
@@ -70,7 +70,7 @@ KnownSet lengths (Some set) = SetF64 set lengths
 
 module _ (lengths : List Float) (count : ℕ) (thickness cant base radius : Float) (thick : F64 thickness) (wide : F64 radius) where
   known_set_lem : (p : Option Planform) → KnownPlanform lengths p
-      → (s : Option Section) (t : Option Tab) (f : Option Fillet) (d : Option Density)
+      → (s : Option Section) (t : Option (Option FinTab)) (f : Option Fillet) (d : Option Density)
       → KnownSet lengths (numbered_set count p thickness s t f cant base radius d)
   known_set_lem None e s t f d = tt
   known_set_lem (Some p) e None t f d = tt

@@ -1,11 +1,10 @@
 -- The job that the logic takes for an element past the end of a list of jobs. An engine has eight jobs, and no screen's
 -- place is past them.
-use Rattle.std.specs.Prelude.{false, [], Ok}
+use Rattle.std.specs.Prelude.{false, [], Ok, None}
 use Rattle.std.specs.Float.{nan}
 use Rattle.materials.specs.declared.Density.TheVariants.{Bulk}
 use Rattle.sections.specs.declared.Section.TheVariants.{Square}
 use Rattle.planforms.specs.declared.Planform.TheVariants.{Trapezoid}
-use Rattle.fins.specs.declared.Tab.TheVariants.{None}
 use Rattle.fins.specs.declared.FinSet.{FinSet}
 use Rattle.figures.specs.declared.Figures.{Figures}
 use Rattle.jobs.specs.declared.Job.{Job}

@@ -13,29 +13,29 @@ use Rattle.materials.specs.declared.Density.TheVariants.{Bulk}
 use Rattle.materials.specs.Numbered.{density_number, density_figure, numbered_density}
 use Rattle.fillets.specs.Numbered.{no_fillet, fillet_figures, fillet_of}
 use Rattle.fins.specs.declared.FinSet.{FinSet}
-use Rattle.fins.specs.declared.Tab.{Tab}
-use Rattle.fins.specs.declared.Tab.TheVariants.{None as left_out, Slab}
+use Rattle.fins.specs.declared.FinTab.{FinTab}
 
 -- a tab's number: 0 where it is left out, else 1
-abbrev pub tab_number : Tab → ℕ
-tab_number left_out = 0
-tab_number (Slab height length offset) = 1
+abbrev pub tab_number : Option FinTab → ℕ
+tab_number None = 0
+tab_number (Some tab) = 1
 
 -- a tab's figures: height, length, offset; zeros where it is left out
-abbrev pub tab_figures : Tab → List Float
-tab_figures left_out = bits 0 ∷ bits 0 ∷ bits 0 ∷ []
-tab_figures (Slab height length offset) = height ∷ length ∷ offset ∷ []
+abbrev pub tab_figures : Option FinTab → List Float
+tab_figures None = bits 0 ∷ bits 0 ∷ bits 0 ∷ []
+tab_figures (Some tab) = tab.height_m ∷ tab.length_m ∷ tab.offset_m ∷ []
 
--- the tab of a number and figures; a tab's own give it back (proofs/Numbered: `tab_back`)
-unfoldable pub tab_of : ℕ → List Float → Option Tab
+-- no tab for 0, and for 1 the one of the figures; a tab's own give it back (proofs/Numbered: `tab_back`)
+unfoldable pub tab_of : ℕ → List Float → Option (Option FinTab)
 tab_of number figures =
-    cond (eqb number 0) (Some left_out)
-    (cond (eqb number 1) (Some (Slab (at figures 0) (at figures 1) (at figures 2))) None)
+    cond (eqb number 0) (Some None)
+    (cond (eqb number 1)
+    (Some (Some (record { height_m = at figures 0; length_m = at figures 1; offset_m = at figures 2 }))) None)
 
 -- a set of count, planform, thickness, section, tab, fillet, cant, base angle, body radius and density, where each part
 -- is known
-abbrev pub numbered_set : ℕ → Option Planform → Float → Option Section → Option Tab → Option Fillet → Float → Float
-    → Float → Option Density → Option FinSet
+abbrev pub numbered_set : ℕ → Option Planform → Float → Option Section → Option (Option FinTab) → Option Fillet → Float
+    → Float → Float → Option Density → Option FinSet
 numbered_set count None thickness section tab fillet cant base radius density = None
 numbered_set count (Some planform) thickness None tab fillet cant base radius density = None
 numbered_set count (Some planform) thickness (Some section) None fillet cant base radius density =
@@ -118,7 +118,7 @@ no_fins =
       planform = Outline;
       thickness_m = bits 0;
       cross_section = Square;
-      tab = left_out;
+      tab = None;
       fillet = no_fillet;
       cant_rad = bits 0;
       base_angle_rad = bits 0;

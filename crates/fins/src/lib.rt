@@ -15,20 +15,17 @@ ghost use Rattle.fins.specs.Numbered.{set_in, listed_set, known_set};
 
 use fillets::{FILLET_FIGURES, Fillet};
 use limits::{check_angle, check_length};
+use materials::Density;
 use planforms::{LENGTHS, Planform};
 use refusals::{Refusal, Verdict};
-use materials::Density;
 use sections::Section;
 
 // A rectangular tab below each root: its depth, its length, and how far aft of the root's leading edge it starts.
 #[derive(Clone, Copy)]
-pub enum Tab {
-    None,
-    Slab {
-        height_m: f64,
-        length_m: f64,
-        offset_m: f64,
-    },
+pub struct FinTab {
+    pub height_m: f64,
+    pub length_m: f64,
+    pub offset_m: f64,
 }
 
 // Identical fins spaced evenly around a body. An outline's points lie beside the set.
@@ -38,7 +35,7 @@ pub struct FinSet {
     pub planform: Planform,
     pub thickness_m: f64,
     pub cross_section: Section,
-    pub tab: Tab,
+    pub tab: Option<FinTab>,
     pub fillet: Fillet,
     pub cant_rad: f64,
     pub base_angle_rad: f64,
@@ -49,47 +46,39 @@ pub struct FinSet {
 // How many figures a tab has.
 pub const TAB_FIGURES: usize = 3;
 
-// Returns 0 for no tab, 1 for a slab. The figures are dropped, so this is no conversion.
-fn tab_number(tab: Tab) -> usize
+// Returns 0 for no tab, 1 for one. The figures are dropped, so this is no conversion.
+fn tab_number(tab: Option<FinTab>) -> usize
     ensures { result ≡ tab_number tab }
 {
     match tab {
-        Tab::None => 0,
-        Tab::Slab {
-            height_m: _,
-            length_m: _,
-            offset_m: _,
-        } => 1,
+        None => 0,
+        Some(_) => 1,
     }
 }
 
 // Returns the height, length and offset of a tab, or zeros where there is none.
-fn tab_figures(tab: Tab) -> [f64; TAB_FIGURES]
+fn tab_figures(tab: Option<FinTab>) -> [f64; TAB_FIGURES]
     ensures { result ≡ tab_figures tab }
 {
     match tab {
-        Tab::None => [0.0; TAB_FIGURES],
-        Tab::Slab {
-            height_m,
-            length_m,
-            offset_m,
-        } => [height_m, length_m, offset_m],
+        None => [0.0; TAB_FIGURES],
+        Some(tab) => [tab.height_m, tab.length_m, tab.offset_m],
     }
 }
 
-// Returns the tab of a number and figures; any number but 0 and 1 is no tab's.
-// Both are needed, and a TryFrom takes one value.
+// Returns no tab for 0, and for 1 the one of these figures; any other number says neither.
+// A TryFrom takes one value, and this takes two.
 #[tactic(auto, unfolding(crate::specs::Numbered::tab_of))]
-pub fn tab_of(number: usize, figures: [f64; TAB_FIGURES]) -> Option<Tab>
+pub fn tab_of(number: usize, figures: [f64; TAB_FIGURES]) -> Option<Option<FinTab>>
     ensures { result ≡ tab_of number figures }
 {
     match number {
-        0 => Some(Tab::None),
-        1 => Some(Tab::Slab {
+        0 => Some(None),
+        1 => Some(Some(FinTab {
             height_m: figures[0],
             length_m: figures[1],
             offset_m: figures[2],
-        }),
+        })),
         _ => None,
     }
 }
@@ -100,7 +89,7 @@ pub fn numbered_set(
     planform: Option<Planform>,
     thickness_m: f64,
     section: Option<Section>,
-    tab: Option<Tab>,
+    tab: Option<Option<FinTab>>,
     fillet: Option<Fillet>,
     cant_rad: f64,
     base_angle_rad: f64,
@@ -224,7 +213,7 @@ pub fn known_set(set: Option<FinSet>) -> FinSet
             planform: Planform::Outline,
             thickness_m: 0.0,
             cross_section: Section::Square,
-            tab: Tab::None,
+            tab: None,
             fillet: Fillet {
                 radius_m: 0.0,
                 density: Density::Bulk { kg_m3: 0.0 },
@@ -248,30 +237,22 @@ fn check_slab(height_m: f64, length_m: f64, offset_m: f64, root_chord_m: f64) ->
     refusals::refuse_when(off_root, Refusal::TabOffRoot)
 }
 
-fn check_tab(tab: Tab, root_chord_m: f64) -> Verdict
+fn check_tab(tab: Option<FinTab>, root_chord_m: f64) -> Verdict
     ensures { result ≡ tab_check tab root_chord_m }
 {
     match tab {
-        Tab::None => Ok(()),
-        Tab::Slab {
-            height_m,
-            length_m,
-            offset_m,
-        } => check_slab(height_m, length_m, offset_m, root_chord_m),
+        None => Ok(()),
+        Some(tab) => check_slab(tab.height_m, tab.length_m, tab.offset_m, root_chord_m),
     }
 }
 
 // Checks 11: the tab reaches no deeper than the body's axis.
-fn check_depth(tab: Tab, body_radius_m: f64) -> Verdict
+fn check_depth(tab: Option<FinTab>, body_radius_m: f64) -> Verdict
     ensures { result ≡ depth_check tab body_radius_m }
 {
     match tab {
-        Tab::None => Ok(()),
-        Tab::Slab {
-            height_m,
-            length_m: _,
-            offset_m: _,
-        } => refusals::refuse_when(body_radius_m < height_m, Refusal::TabTooDeep),
+        None => Ok(()),
+        Some(tab) => refusals::refuse_when(body_radius_m < tab.height_m, Refusal::TabTooDeep),
     }
 }
 
@@ -288,7 +269,7 @@ fn check_plate(root_chord_m: f64, thickness_m: f64, cant_rad: f64, base_angle_ra
 
 // Checks the fillet's radius, the tab, the body radius, how deep the tab reaches, and the density.
 fn check_mount(
-    tab: Tab,
+    tab: Option<FinTab>,
     fillet_radius_m: f64,
     root_chord_m: f64,
     body_radius_m: f64,

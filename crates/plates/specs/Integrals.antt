@@ -1,10 +1,9 @@
 -- The volume integrals of one fin and of its tab (fins.rs, `PlateIntegrals`, `fin_integrals`, `tab_integrals`).
-use Rattle.std.specs.Prelude.{List, [], ◌∷◌, Float}
+use Rattle.std.specs.Prelude.{List, [], ◌∷◌, Float, Option, Some, None}
 use Rattle.floats.specs.Operations.{◌⊕◌, ◌⊖◌, ◌⊗◌, ◌⊘◌, bits, at, tabulate}
 use Rattle.floats.specs.Constants.{half, three, twelve}
 use Rattle.floats.specs.Floats.{cube, fourth, fifth}
-use Rattle.fins.specs.declared.Tab.{Tab}
-use Rattle.fins.specs.declared.Tab.TheVariants.{None, Slab}
+use Rattle.fins.specs.declared.FinTab.{FinTab}
 
 -- the seven integrals of a list: V, ∫r, ∫r², ∫x, ∫x², ∫rx and ∫τ², each dV
 abbrev pub volume : List Float → Float
@@ -58,10 +57,11 @@ slab_of t h l inner outer fore aft =
 
 -- the integrals of a tab, a slab from radius − height to the radius and from the offset to offset + length; zeros where
 -- there is no tab
-unfoldable pub tab_integrals_of : Tab → Float → Float → List Float
+unfoldable pub tab_integrals_of : Option FinTab → Float → Float → List Float
 tab_integrals_of None thickness radius = tabulate 7 (λ k. bits 0)
-tab_integrals_of (Slab height length offset) thickness radius =
-    slab_of thickness height length (radius ⊖ height) radius offset (offset ⊕ length)
+tab_integrals_of (Some tab) thickness radius =
+    slab_of thickness tab.height_m tab.length_m (radius ⊖ tab.height_m) radius tab.offset_m
+    (tab.offset_m ⊕ tab.length_m)
 
 -- the sums of two lists of integrals, place by place
 abbrev pub add_integrals : List Float → List Float → List Float

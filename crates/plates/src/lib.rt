@@ -12,7 +12,7 @@ ghost use Rattle.plates.specs.Integrals.{unscaled_of, slab_of, tab_integrals_of,
 ghost use Rattle.plates.specs.Plates.{about_origin, plate_body, with_fillets, canted_of, integrals_of, fin_of};
 
 use bodies::{Body, Tensor, Vector};
-use fins::{FinSet, Tab};
+use fins::{FinSet, FinTab};
 
 // Returns the strips' totals as volume integrals in metres. The strips were worked in lengths divided by the scale.
 fn unscaled(total: [f64; 7], scale_m: f64) -> [f64; 7]
@@ -50,23 +50,19 @@ fn slab_integrals(t: f64, h: f64, l: f64, r0: f64, r1: f64, x0: f64, x1: f64) ->
 }
 
 // Returns the integrals of the tab below the root, or zeros where there is none.
-pub fn tab_integrals(tab: Tab, thickness_m: f64, body_radius_m: f64) -> [f64; 7]
+pub fn tab_integrals(tab: Option<FinTab>, thickness_m: f64, body_radius_m: f64) -> [f64; 7]
     ensures { result ≡ tab_integrals_of tab thickness_m body_radius_m }
 {
     match tab {
-        Tab::None => [0.0; 7],
-        Tab::Slab {
-            height_m,
-            length_m,
-            offset_m,
-        } => slab_integrals(
+        None => [0.0; 7],
+        Some(tab) => slab_integrals(
             thickness_m,
-            height_m,
-            length_m,
-            body_radius_m - height_m,
+            tab.height_m,
+            tab.length_m,
+            body_radius_m - tab.height_m,
             body_radius_m,
-            offset_m,
-            offset_m + length_m,
+            tab.offset_m,
+            tab.offset_m + tab.length_m,
         ),
     }
 }

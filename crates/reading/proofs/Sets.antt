@@ -20,7 +20,7 @@ use Rattle.materials.specs.declared.Density.{Density}
 use Rattle.materials.specs.Numbered.{numbered_density}
 use Rattle.fillets.specs.declared.Fillet.{Fillet}
 use Rattle.fillets.specs.Numbered.{fillet_of}
-use Rattle.fins.specs.declared.Tab.{Tab}
+use Rattle.fins.specs.declared.FinTab.{FinTab}
 use Rattle.fins.specs.declared.FinSet.{FinSet}
 use Rattle.fins.specs.Numbered.{tab_of, numbered_set}
 use Rattle.reading.specs.declared.SetParts.{SetParts}
@@ -160,7 +160,7 @@ module _ (line : List ℕ) {v v₁ v₂ v₃ v₄ v₅ v₆ v₇ v₈ v₉ v₁�
 
 -- each part of the set, by the call that made it
 pub together : (p : SetParts) (fs : List Float) {slab glue angles : List Float}
-    {planform : Option Planform} {section : Option Section} {tab : Option Tab}
+    {planform : Option Planform} {section : Option Section} {tab : Option (Option FinTab)}
     {fillet : Option Fillet} {density : Option Density}
     {weight thickness cant base radius : Float} {set : Option FinSet}
     → planform ≡ planform_of p.planform fs
@@ -176,7 +176,7 @@ together p fs e-planform e-section e-slab e-tab e-glue e-fillet e-angles e-weigh
     rw (e-set, e-planform, e-section, e-tab, e-slab, e-fillet, e-glue, e-density, e-weight, e-thickness, e-cant, e-base, e-radius, e-angles)
 
 -- three figures of a tab and two of a fillet
-pub tab_is : (number : ℕ) (slab : List Float) {a b d : Float} {tab : Option Tab} → tab ≡ tab_of number (a ∷ b ∷ d ∷ [])
+pub tab_is : (number : ℕ) (slab : List Float) {a b d : Float} {tab : Option (Option FinTab)} → tab ≡ tab_of number (a ∷ b ∷ d ∷ [])
     → a ≡ at slab 0 → b ≡ at slab 1 → d ≡ at slab 2 → tab ≡ tab_of number slab
 unfolding tab_of
 tab_is number slab e-tab e-a e-b e-d = rw (e-tab, e-a, e-b, e-d)

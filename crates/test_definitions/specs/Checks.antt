@@ -1,5 +1,6 @@
 -- Checks: the table of refusals, each limit from both sides, document 01's examples of a refusal, and the two orders.
-use Rattle.std.specs.Prelude.{Bool, true, false, not, ◌&&◌, cond, List, [], ◌∷◌, map, ℕ, suc, T, leb, Ok, Err}
+use Rattle.std.specs.Prelude.{Bool, true, false, not, ◌&&◌, cond, List, [], ◌∷◌, map, ℕ, suc, T, leb, Ok}
+use Rattle.std.specs.Prelude.{Err, Option, Some, None}
 use Rattle.std.specs.Float.{binary64}
 use Rattle.std.specs.Float.Ieee.{add, sub, mul, div, neg, of_bits, to_bits, of_int, lt, le, eq, ne}
 use Rattle.floats.specs.Operations.{bits, every}
@@ -25,8 +26,7 @@ use Rattle.fillets.specs.Angles.{angle_of}
 use Rattle.fillets.specs.FilletSections.{span_less_sine_of, sector_of, fillet_section_of}
 use Rattle.fillets.specs.Fillets.{is_none, is_sound, ratio_check}
 use Rattle.fins.specs.declared.FinSet.{FinSet}
-use Rattle.fins.specs.declared.Tab.{Tab}
-use Rattle.fins.specs.declared.Tab.TheVariants.{None, Slab}
+use Rattle.fins.specs.declared.FinTab.{FinTab}
 use Rattle.outlines.specs.Outlines.{planform_check}
 use Rattle.fins.specs.Fins.{tab_check, depth_check, set_check, area_check}
 use Rattle.bodies.specs.declared.Body.{Body}
@@ -192,13 +192,17 @@ outlines_refused =
     && refused 4 (5 ∷ []) (outline_check (map bits (one ∷ 0 ∷ large ∷ large ∷ two ∷ 0 ∷ [])))
     && accepted (outline_check (map bits (0 ∷ 0 ∷ one ∷ two ∷ two ∷ 0 ∷ [])))
 
+abbrev tab_of_bits : ℕ → ℕ → ℕ → Option FinTab
+tab_of_bits height length offset =
+    Some (record { height_m = bits height; length_m = bits length; offset_m = bits offset })
+
 -- "offset −0.01"; "tab offset 0 with length = root passes"; "0.03 over 0.02", and 0.03 over 0.03 passes
 abbrev pub tabs_refused : Bool
 tabs_refused =
-    refused 10 [] (tab_check (Slab (bits d03) (bits d03) (bits (minus d01))) (bits d2))
-    && accepted (tab_check (Slab (bits d03) (bits d2) (bits 0)) (bits d2))
-    && refused 11 [] (depth_check (Slab (bits d03) (bits d2) (bits 0)) (bits d02))
-    && accepted (depth_check (Slab (bits d03) (bits d2) (bits 0)) (bits d03))
+    refused 10 [] (tab_check (tab_of_bits d03 d03 (minus d01)) (bits d2))
+    && accepted (tab_check (tab_of_bits d03 d2 0) (bits d2))
+    && refused 11 [] (depth_check (tab_of_bits d03 d2 0) (bits d02))
+    && accepted (depth_check (tab_of_bits d03 d2 0) (bits d03))
 
 -- 17a: 2^500 passes, the f64 above it does not, also in the last place; a refused tensor has zeros for moments
 abbrev last_entry : ℕ → Tensor
@@ -231,10 +235,10 @@ planform_at k =
     (bits (unless_mended k 5 large d2))
     (bits (unless_mended k 6 large d2))
 
-abbrev tab_at : ℕ → Tab
+abbrev tab_at : ℕ → Option FinTab
 tab_at k =
-    Slab (bits (unless_mended k 12 large d03)) (bits (unless_mended k 13 large d2))
-    (bits (unless_mended k 14 large (unless_mended k 15 d01 0)))
+    tab_of_bits (unless_mended k 12 large d03) (unless_mended k 13 large d2)
+    (unless_mended k 14 large (unless_mended k 15 d01 0))
 
 abbrev density_at : ℕ → ℕ → Density
 density_at k fault = cond (leb k fault) (Surface (bits one)) (Bulk (bits 0))

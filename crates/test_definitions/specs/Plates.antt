@@ -1,6 +1,6 @@
 -- One fin's body from its integrals (document 01, "Set and planform"; document 02, Paper 6): areas and volumes of 0,
 -- the tab, the cant, the density.
-use Rattle.std.specs.Prelude.{Bool, ◌&&◌, List, [], ◌∷◌, map, ℕ, T}
+use Rattle.std.specs.Prelude.{Bool, ◌&&◌, List, [], ◌∷◌, map, ℕ, T, Some}
 use Rattle.std.specs.Float.{nan}
 use Rattle.std.specs.Float.Ieee.{add, sub, mul, div, neg, of_bits, to_bits, of_int, round, lt, le, eq, ne}
 use Rattle.floats.specs.Operations.{bits}
@@ -10,7 +10,6 @@ use Rattle.bodies.specs.Bodies.{empty_body, inertia_about_of, point_mass, of_ori
 use Rattle.halving.specs.Endings.{Ending, accepted as Accepted, not_converged as NotConverged}
 use Rattle.halving.specs.declared.Integral.{Integral}
 use Rattle.joins.specs.Joins.{in_order, sums_of, inertia_of, join_of}
-use Rattle.fins.specs.declared.Tab.TheVariants.{Slab}
 use Rattle.plates.specs.Integrals.{tab_integrals_of}
 use Rattle.plates.specs.Plates.{about_origin, plate_body, with_fillets, canted_of}
 use Rattle.figures.specs.Figures.{size_check, conclusion_of}
@@ -66,7 +65,9 @@ centroid_scaled_first =
 -- ∫r would be 7
 abbrev pub tab_inward : Bool
 tab_inward =
-    are (tab_integrals_of (Slab (bits one) (bits two) (bits one)) (bits one) (bits three))
+    are
+    (tab_integrals_of (Some (record { height_m = bits one; length_m = bits two; offset_m = bits one })) (bits one)
+    (bits three))
     (two
     ∷ five
     ∷ 0x4029_5555_5555_5555

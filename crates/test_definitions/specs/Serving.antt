@@ -1,6 +1,7 @@
 -- Eight screens and their turns (document 02, Paper 10): rows against likely wrong orders, and against calls that touch
 -- too much.
-use Rattle.std.specs.Prelude.{Bool, true, false, not, ◌&&◌, List, [], ◌∷◌, ℕ, zero, suc, T, eqb, length, replicate, get_or, Float, Ok}
+use Rattle.std.specs.Prelude.{Bool, true, false, not, ◌&&◌, List, [], ◌∷◌, ℕ, zero, suc, T, eqb, length}
+use Rattle.std.specs.Prelude.{replicate, get_or, Float, Ok, None}
 use Rattle.std.specs.Float.{nan}
 use Rattle.std.specs.Float.Ieee.{of_bits, to_bits, of_int, add, sub, mul, div, neg, lt, le, eq, ne}
 use Rattle.floats.specs.Operations.{bits, every}
@@ -16,7 +17,6 @@ use Rattle.planforms.specs.Planforms.{root_chord_of, span_of}
 use Rattle.sorting.specs.Sorted.{below_all, insert, sorted}
 use Rattle.breaks.specs.Breaks.{every_y, once, break_heights}
 use Rattle.sections.specs.declared.Section.TheVariants.{Square}
-use Rattle.fins.specs.declared.Tab.TheVariants.{None}
 use Rattle.fins.specs.declared.FinSet.{FinSet}
 use Rattle.outlines.specs.Outlines.{planform_check}
 use Rattle.fins.specs.Fins.{tab_check, depth_check, own_check}

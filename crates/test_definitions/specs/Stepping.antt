@@ -1,5 +1,6 @@
 -- A job's calls (document 02, Paper 9): a fin of two strips, between heights 0, 1 and 2, with one piece each.
-use Rattle.std.specs.Prelude.{Bool, true, false, not, ◌&&◌, List, [], ◌∷◌, map, ℕ, T, eqb, length, take, drop, replicate, Float, Ok, Err}
+use Rattle.std.specs.Prelude.{Bool, true, false, not, ◌&&◌, List, [], ◌∷◌, map, ℕ, T, eqb, length}
+use Rattle.std.specs.Prelude.{take, drop, replicate, Float, Ok, Err, None}
 use Rattle.std.specs.Float.Ieee.{add, sub, mul, div, of_bits, to_bits, of_int, round, lt, le, eq, ne}
 use Rattle.floats.specs.Operations.{bits, at, every}
 use Rattle.floats.specs.Floats.{abs_of}
@@ -18,7 +19,6 @@ use Rattle.chords.specs.Chords.{crossed, crossings, outline_crossings, ends_at, 
 use Rattle.integrands.specs.Integrands.{scale_of, sums_from, sample_of, plate_of}
 use Rattle.fillets.specs.Numbered.{no_fillet}
 use Rattle.fins.specs.declared.FinSet.{FinSet}
-use Rattle.fins.specs.declared.Tab.TheVariants.{None}
 use Rattle.gauss_kronrod.specs.Tables.{nodes, kronrod_weights, gauss_weights}
 use Rattle.quadrature.specs.Rule.{heights_to, weighted_to, piece_of, zeros}
 use Rattle.tolerance.specs.Bounds.{total_of, error_of, absolute, relative, converged, score_of, last_highest, worst_place}

@@ -3,7 +3,7 @@
 
 use figures::Figures;
 use fillets::Fillet;
-use fins::{FinSet, Tab};
+use fins::FinSet;
 use materials::Density;
 use planforms::Planform;
 use refusals::Verdict;
@@ -78,7 +78,7 @@ fn section(seed: u64) -> Section {
 pub fn set_of(seed: u64, density: Density) -> FinSet {
     let planform = planform(seed);
     let cross_section = section(seed >> 2);
-    let tab = Tab::None;
+    let tab = None;
     let fillet = Fillet {
         radius_m: 0.002 * whole(seed >> 17),
         density: Density::Bulk { kg_m3: 1100.0 },

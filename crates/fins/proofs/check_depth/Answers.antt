@@ -6,6 +6,6 @@ pub returns-in-None : goal.returns-in-None
 unfolding depth_check
 returns-in-None c = rw c.in-None.is
 
-pub returns-in-Slab : goal.returns-in-Slab
+pub returns-in-Some : goal.returns-in-Some
 unfolding depth_check
-returns-in-Slab c = rw c.in-Slab.is c.refuse_when.ensures
+returns-in-Some c = rw c.in-Some.is c.refuse_when.ensures

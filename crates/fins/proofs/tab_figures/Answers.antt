@@ -4,5 +4,5 @@ use Rattle.fins.proofs.tab_figures.Goals as goal
 pub returns-in-None : goal.returns-in-None
 returns-in-None c = rw c.in-None.is
 
-pub returns-in-Slab : goal.returns-in-Slab
-returns-in-Slab c = rw c.in-Slab.is
+pub returns-in-Some : goal.returns-in-Some
+returns-in-Some c = rw c.in-Some.is

@@ -6,6 +6,6 @@ pub returns-in-None : goal.returns-in-None
 unfolding tab_integrals_of
 returns-in-None c = rw c.in-None.is
 
-pub returns-in-Slab : goal.returns-in-Slab
+pub returns-in-Some : goal.returns-in-Some
 unfolding tab_integrals_of
-returns-in-Slab c = rw c.in-Slab.is c.slab_integrals.ensures
+returns-in-Some c = rw c.in-Some.is c.slab_integrals.ensures
