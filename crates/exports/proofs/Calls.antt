@@ -33,7 +33,7 @@ use Rattle.refusals.specs.Numbered.{number_in}
 use Rattle.refusals.specs.Lent.{over, with_values, with_count, with_counts, room}
 use Rattle.figures.specs.Numbered.{figure_counts}
 use Rattle.exports.specs.Calls.{SetCall, area_numbers, area_counts, AreaCall, ChordsCall, DrillCall, BodyCall, ClosingCall}
-use Rattle.exports.specs.Calls.{JoinCall, moments_numbers, MomentsCall, CheckCall}
+use Rattle.exports.specs.Calls.{JoinCall, MomentsCall, CheckCall}
 use Rattle.refusals.proofs.Rooms.{has_room, few_figures, few_counts}
 use Rattle.limits.specs.Limits.{most_points}
 

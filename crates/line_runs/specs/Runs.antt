@@ -3,7 +3,7 @@
 -- here name what each read and each write gave; they say how the bytes in the chunk are answered, and which text the
 -- first bytes of `out`, which are handed to write, are; and they count the bytes that were read, and those that were
 -- handed to write.
-use Rattle.std.specs.Prelude.{List, [], ◌++◌, Bool, true, false, ◌&&◌, cond, ◌≡◌, ℕ, ◌+◌, ◌-◌, ◌*◌, ◌<◌, ◌≤◌, leb, length, take, drop}
+use Rattle.std.specs.Prelude.{List, [], Bool, true, false, ◌&&◌, cond, ◌≡◌, ℕ, ◌+◌, ◌-◌, ◌<◌, ◌≤◌, leb, length, take, drop}
 use Rattle.tokens.specs.Tokens.{line_bytes}
 use Rattle.reads.specs.Reads.{brought, at_end, most_read}
 use Rattle.input_lines.specs.declared.State.{State}

@@ -1,7 +1,7 @@
 -- The calls on what is given by numbers (docs/FORMS.md; include/delvouzh.h): an unknown number, or another count of
 -- numbers, is no form.
-use Rattle.std.specs.Prelude.{cond, List, [], ◌∷◌, ℕ, ◌+◌, ◌*◌, ◌/◌, eqb, length, Float, Err, Option, Some, None, Result, Ok}
-use Rattle.floats.specs.Operations.{bits, at}
+use Rattle.std.specs.Prelude.{cond, List, ℕ, ◌+◌, ◌*◌, ◌/◌, eqb, length, Float, Err, Option, Some, None, Result}
+use Rattle.floats.specs.Operations.{at}
 use Rattle.refusals.specs.declared.Refusal.{Refusal}
 use Rattle.refusals.specs.declared.Refusal.TheVariants.{NoForm}
 use Rattle.refusals.specs.Verdict.{Verdict}

@@ -122,6 +122,7 @@ pub fn drilled(
 
 // Returns a ring of tubes by six numbers: length, outer radius, wall, base angle, body radius and density. Any other
 // count, or an unknown density, is refused with 18.
+#[tactic(auto, unfolding(crate::specs::Calls::ring_by))]
 pub fn ring_figures(count: usize, density: usize, numbers: &[f64]) -> Result<Body, Refusal>
     ensures { result ≡ ring_by count density numbers.now }
 {
@@ -146,6 +147,7 @@ pub fn ring_figures(count: usize, density: usize, numbers: &[f64]) -> Result<Bod
 }
 
 // Returns the principal moments of a tensor's numbers; any other count of them is refused with 18.
+#[tactic(auto, unfolding(crate::specs::Calls::tensor_moments))]
 pub fn tensor_moments(numbers: &[f64]) -> Result<[f64; 3], Refusal>
     ensures { result ≡ tensor_moments numbers.now }
 {
@@ -156,6 +158,7 @@ pub fn tensor_moments(numbers: &[f64]) -> Result<[f64; 3], Refusal>
 }
 
 // Checks a body's numbers; any other count of them is refused with 18.
+#[tactic(auto, unfolding(crate::specs::Calls::body_verdict))]
 pub fn body_verdict(numbers: &[f64]) -> Verdict
     ensures { result ≡ body_verdict numbers.now }
 {
@@ -167,6 +170,7 @@ pub fn body_verdict(numbers: &[f64]) -> Verdict
 
 // Returns copies of a body joined, each moved by the x and y of an offset. Any other count of the body's numbers is
 // refused with 18.
+#[tactic(auto, unfolding(crate::specs::Calls::copied_by))]
 pub fn copied_by(body: &[f64], offsets: &[f64]) -> Result<Body, Refusal>
     ensures { result ≡ copied_by body.now offsets.now }
 {
@@ -178,6 +182,7 @@ pub fn copied_by(body: &[f64], offsets: &[f64]) -> Result<Body, Refusal>
 
 // Returns copies of a body joined, each at the x, y and roll of a place. Any other count of the body's numbers is
 // refused with 18.
+#[tactic(auto, unfolding(crate::specs::Calls::placed_by))]
 pub fn placed_by(body: &[f64], places: &[f64]) -> Result<Body, Refusal>
     ensures { result ≡ placed_by body.now places.now }
 {
@@ -188,6 +193,7 @@ pub fn placed_by(body: &[f64], places: &[f64]) -> Result<Body, Refusal>
 }
 
 // Returns a body with a part moved by an offset of three numbers. Any other count of numbers is refused with 18.
+#[tactic(auto, unfolding(crate::specs::Calls::moved_by))]
 pub fn moved_by(whole: &[f64], part: &[f64], offset: &[f64]) -> Result<Body, Refusal>
     ensures { result ≡ moved_by whole.now part.now offset.now }
 {
@@ -209,6 +215,7 @@ pub fn moved_by(whole: &[f64], part: &[f64], offset: &[f64]) -> Result<Body, Ref
 }
 
 // Returns a body with a part taken off. Any other count of numbers is refused with 18.
+#[tactic(auto, unfolding(crate::specs::Calls::without_by))]
 pub fn without_by(whole: &[f64], part: &[f64]) -> Result<Body, Refusal>
     ensures { result ≡ without_by whole.now part.now }
 {
