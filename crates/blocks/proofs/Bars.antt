@@ -3,13 +3,12 @@ use mathlib.Core.List.{List, [], ◌∷◌, ◌++◌, append-nil, append_assoc}
 use mathlib.Core.Bool.{Bool, true, false, not, cond}
 use mathlib.Core.Path.{◌≡◌, refl, sym, ap, ◌∙◌}
 use Prim.Native.Nat.{ℕ, ◌+◌, ◌<◌, ◌≤◌}
-use native.Mathlib.Omega.{arith}
 use borrow.Author.Tests.{lt-ltb, le-ltb}
 use lib.Dec.{T, ltb, eqb}
 use lib.ListN.{length, drop, drop_of_length-le}
 use lib.Ieee.Fits.{and_l, and_r}
+use Rattle.std.specs.Prelude.{Some, None}
 use Rattle.tokens.specs.Found.{part}
-use Rattle.tokens.proofs.Bytes.{part_none}
 use Rattle.templates.specs.Matching.{same_bytes, cut_after, cut_at_bars}
 use Rattle.templates.specs.Cursors.{IsBarEnd}
 use Rattle.blocks.specs.Tables.{text_for, with_bars, no_bar, no_bars}
@@ -21,15 +20,15 @@ module _ (table key : List ℕ) where
   From at = cut_at_bars (drop at table)
 
   pub nothing_found : (rest : List ℕ) → text_for key (cut_at_bars table) ≡ rest → rest ≡ []
-      → IsTextFor table key (record { from = 0; to = 0 })
-  nothing_found rest e f = record { is = part_none table 0 ∙ sym (e ∙ f); ordered = omega arith; within = omega arith }
+      → IsTextFor table key None
+  nothing_found rest e f = sym (e ∙ f)
 
   at_end_lem : (at : ℕ) → length table ≤ at → text_for key (From at) ≡ []
   unfolding text_for cut_after
   at_end_lem at h = ap (λ (t : List ℕ). text_for key (cut_at_bars t)) (drop_of_length-le table h)
 
   pub ends_here : (at : ℕ) → text_for key (cut_at_bars table) ≡ text_for key (From at) → length table ≤ at
-      → IsTextFor table key (record { from = 0; to = 0 })
+      → IsTextFor table key None
   ends_here at e h = nothing_found (text_for key (From at)) e (at_end_lem at h)
 
   module _ (at end : ℕ) (first : IsBarEnd table at end) where
@@ -39,7 +38,7 @@ module _ (table key : List ℕ) where
         (first.cut ∙ ap (λ (t : Bool). part table at end ∷ cond t (cut_at_bars (drop (end + 1) table)) []) (le-ltb end (length table) h))
 
     pub key_alone : text_for key (cut_at_bars table) ≡ text_for key (From at) → length table ≤ end
-        → IsTextFor table key (record { from = 0; to = 0 })
+        → IsTextFor table key None
     key_alone e h = nothing_found (text_for key (From at)) e (last_key h)
 
     module _ (to : ℕ) (h : end < length table) (second : IsBarEnd table (end + 1) to) where
@@ -59,7 +58,7 @@ module _ (table key : List ℕ) where
           (text_for key (cond (ltb to (length table)) (cut_at_bars (drop (to + 1) table)) []))) e
 
       pub found : text_for key (cut_at_bars table) ≡ text_for key (From at) → same_bytes key (part table at end) ≡ true
-          → IsTextFor table key (record { from = end + 1; to = to })
+          → IsTextFor table key (Some (record { from = end + 1; to = to }))
       found e s = record { is = sym (e ∙ tested true s); ordered = second.behind; within = second.within }
 
       pub passed : text_for key (cut_at_bars table) ≡ text_for key (From at) → same_bytes key (part table at end) ≡ false
@@ -69,7 +68,7 @@ module _ (table key : List ℕ) where
           ∙ ap (λ (t : Bool). text_for key (cond t (cut_at_bars (drop (to + 1) table)) [])) (lt-ltb to (length table) g)
 
       pub passed_last : text_for key (cut_at_bars table) ≡ text_for key (From at) → same_bytes key (part table at end) ≡ false
-          → length table ≤ to → IsTextFor table key (record { from = 0; to = 0 })
+          → length table ≤ to → IsTextFor table key None
       unfolding text_for
       passed_last e s g =
           nothing_found (text_for key (From at)) e

@@ -1,6 +1,6 @@
 -- What the inner functions do: no definition of Cards.antt uses these.
 use Rattle.std.specs.Prelude.{List, [], ◌∷◌, ◌++◌, true, cond, ◌≡◌, ℕ, ◌+◌, ◌<◌, ◌≤◌, ltb, length, take, drop, get_or}
-use Rattle.std.specs.Prelude.{Float, None}
+use Rattle.std.specs.Prelude.{Float, Option, Some, None}
 use Rattle.texts.specs.Appended.{Appended}
 use Rattle.tokens.specs.Tokens.{ends_word}
 use Rattle.tokens.specs.Found.{part}
@@ -83,11 +83,16 @@ pub record IsRead (line : List ℕ) (r : Read) (shape : List ℕ) (figures : Lis
   pub figures_fit : r.figures ≤ length line
   pub counts_fit : r.counts ≤ length line
 
--- r is where a table's text for a key stands, empty where there is none
-pub record IsTextFor (table key : List ℕ) (r : Part) : Type 0 where
+-- r is where a table's text for a key stands
+pub record StandsAt (table key : List ℕ) (r : Part) : Type 0 where
   pub is : part table r.from r.to ≡ text_for key (cut_at_bars table)
   pub ordered : r.from ≤ r.to
   pub within : r.to ≤ length table
+
+-- r is where a table's text for a key stands, and none where it has no such key
+abbrev pub IsTextFor : List ℕ → List ℕ → Option Part → Type 0
+IsTextFor table key None = [] ≡ text_for key (cut_at_bars table)
+IsTextFor table key (Some r) = StandsAt table key r
 
 -- no more figures or counts are used than there are, and the buffer has room for what byte b of a text gives
 pub record HasRoom (most : ℕ → ℕ) (out : List ℕ) (p : Place) (b : ℕ) (figures : List Float)

@@ -22,6 +22,27 @@ ghost use Rattle.blocks.specs.Cards.{numbered_block, numbered_bytes};
 // How many bytes an answer may have: a longer line is none.
 const LONGEST: usize = 512;
 
+// Appends the text that the table has for this shape, filled in, or nothing where it has none.
+fn put_found(
+    out: &mut [u8],
+    n: usize,
+    table: &[u8],
+    shape: &[u8],
+    figures: &[f64],
+    counts: &[u64],
+) -> usize
+    requires { BlockFits n out.old × (length table.now ≤ 4096)
+        × (room card_most (text_for shape.now (cut_at_bars table.now)) ≤ 1000) }
+    ensures { Appended out.old n
+        (filled card (text_for shape.now (cut_at_bars table.now)) figures.now
+        counts.now) out.new result }
+{
+    match lookup::find(table, shape) {
+        Some(p) => filling::put_card(out, n, &table[p.from..p.to], figures, counts),
+        None => n,
+    }
+}
+
 // Appends the block that the table has for this shape, or the text that the line is no answer, and an empty line.
 fn put_from(
     out: &mut [u8],
@@ -39,10 +60,7 @@ fn put_from(
         counts.now) no_answer
         ++ newline) out.new result }
 {
-    let p = lookup::find(table, shape);
-    let from = p.from;
-    let to = p.to;
-    let end = filling::put_card(out, n, &table[from..to], figures, counts);
+    let end = put_found(out, n, table, shape, figures, counts);
     if n < end {
         return texts::put_bytes(out, end, b"\n");
     }

@@ -11,8 +11,8 @@ pub struct Part {
     pub to: usize,
 }
 
-// Returns where the text of the first key that equals this one stands, or an empty part where there is no such key.
-pub fn find(table: &[u8], key: &[u8]) -> Part
+// Returns where the text of the first key that equals this one stands, or `None` where there is no such key.
+pub fn find(table: &[u8], key: &[u8]) -> Option<Part>
     requires { length table.now ≤ 4096 }
     ensures { IsTextFor table.now key.now result }
 {
@@ -20,17 +20,17 @@ pub fn find(table: &[u8], key: &[u8]) -> Part
     while at < table.len() {
         let end = bar_end(table, at);
         if table.len() <= end {
-            return Part { from: 0, to: 0 };
+            return None;
         }
         let from = end + 1;
         let to = bar_end(table, from);
         if same_bytes(key, &table[at..end]) {
-            return Part { from, to };
+            return Some(Part { from, to });
         }
         if table.len() <= to {
-            return Part { from: 0, to: 0 };
+            return None;
         }
         at = to + 1;
     }
-    Part { from: 0, to: 0 }
+    None
 }

@@ -16,11 +16,10 @@ fn put_text(out: &mut [u8], n: usize, table: &[u8], key: &[u8]) -> usize
         (or_else (text_for key.now (cut_at_bars table.now)) (text "no number of the table"))
         out.new result }
 {
-    let p = lookup::find(table, key);
-    let from = p.from;
-    let to = p.to;
-    if from < to {
-        return texts::put_bytes(out, n, &table[from..to]);
+    if let Some(p) = lookup::find(table, key) {
+        if p.from < p.to {
+            return texts::put_bytes(out, n, &table[p.from..p.to]);
+        }
     }
     texts::put_bytes(out, n, b"no number of the table")
 }

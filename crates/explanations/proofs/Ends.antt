@@ -16,6 +16,7 @@ use Rattle.templates.specs.Matching.{cut_at_bars, cut_after}
 use Rattle.blocks.specs.Tables.{text_for}
 use Rattle.blocks.specs.Cards.{refusal_text}
 use Rattle.blocks.proofs.Said.{at_most_lem, refusal_fits}
+use Rattle.std.specs.Prelude.{Option, Some, None}
 use Rattle.explanations.specs.declared.Fault.{Fault}
 use Rattle.explanations.specs.Faults.{fault_of}
 use Rattle.explanations.specs.Endings.{saved, fault_place, wanted_word, wanted_of, wanted_text}
@@ -116,10 +117,14 @@ fault_few line fault =
     let b = length-append (detail_text details fault) place in
     omega (arith, p, d, r, a, b)
 
+explained_few : (line : List ℕ) (found : Option Fault) → length (explained line found) ≤ 800
+unfolding text codes
+explained_few line None = omega arith
+explained_few line (Some fault) = fault_few line fault
+
 pub kept_few : (line : List ℕ) (over : Bool) → length (kept_explanation line over) ≤ 800
 unfolding explanation_of text codes
 kept_few line over =
-    let fault = fault_of line in
-    either over too_long (cond (ltb line_bytes (length line)) too_long (explained line fault)) 800 (omega arith)
-    (either (ltb line_bytes (length line)) too_long (explained line fault) 800 (omega arith)
-    (either (eqb fault.number 0) (text "accepted") (fault_text line fault) 800 (omega arith) (fault_few line fault)))
+    let found = fault_of line in
+    either over too_long (cond (ltb line_bytes (length line)) too_long (explained line found)) 800 (omega arith)
+    (either (ltb line_bytes (length line)) too_long (explained line found) 800 (omega arith) (explained_few line found))

@@ -1,5 +1,6 @@
 -- The word at fault: the first after which no ending saves the line.
 use Rattle.std.specs.Prelude.{List, [], ◌∷◌, ◌++◌, Bool, true, false, ◌&&◌, ◌||◌, not, cond, ℕ, zero, suc, eqb, ltb, take}
+use Rattle.std.specs.Prelude.{Option, Some, None}
 use Rattle.tokens.specs.Text.{text}
 use Rattle.tokens.specs.Tokens.{line_bytes}
 use Rattle.tokens.specs.declared.TokenRange.{TokenRange}
@@ -11,10 +12,12 @@ use Rattle.explanations.specs.Faults.{fault_of}
 abbrev pub same_fault : Fault → Fault → Bool
 same_fault a b = eqb a.number b.number && (eqb a.first b.first && eqb a.second b.second)
 
--- a line with the fault `other` is saved from `fault`: it is a form, and is refused for something else or not at all.
--- An ending that leaves half a point, 5, or puts a word in a figure's place, 19, does not fit, and saves from 18 alone.
-abbrev pub saves_from : Fault → Fault → Bool
-saves_from fault other =
+-- a line with the fault `other`, or none, is saved from `fault`: it is a form, and is refused for something else or not
+-- at all. An ending that leaves half a point, 5, or puts a word in a figure's place, 19, does not fit, and saves from 18
+-- alone.
+abbrev pub saves_from : Fault → Option Fault → Bool
+saves_from fault None = true
+saves_from fault (Some other) =
     not (eqb other.number 18)
     && (not (same_fault other fault)
     && (eqb fault.number 18 || (not (eqb other.number 5) && not (eqb other.number 19))))

@@ -1,5 +1,6 @@
 -- The explanation of a line (docs/FORMS.md, "Why was my line refused?").
 use Rattle.std.specs.Prelude.{List, [], ◌∷◌, ◌++◌, Bool, ◌&&◌, not, cond, ℕ, ◌+◌, ◌-◌, eqb, ltb, length, take}
+use Rattle.std.specs.Prelude.{Option, Some, None}
 use Rattle.tokens.specs.Text.{text}
 use Rattle.tokens.specs.Tokens.{line_bytes}
 use Rattle.tokens.specs.Found.{part}
@@ -63,8 +64,9 @@ fault_text line fault =
     text "refused "
     ++ (refusal_text fault.number ++ (detail_text details fault ++ place_text examples form_words line fault))
 
-abbrev pub explained : List ℕ → Fault → List ℕ
-explained line fault = cond (eqb fault.number 0) (text "accepted") (fault_text line fault)
+abbrev pub explained : List ℕ → Option Fault → List ℕ
+explained line None = text "accepted"
+explained line (Some fault) = fault_text line fault
 
 -- the explanation of a line that is too long: "a longer line is 18"
 abbrev pub too_long : List ℕ

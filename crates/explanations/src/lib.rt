@@ -11,7 +11,7 @@ ghost use Rattle.tokens.specs.Tokens.{line_bytes};
 ghost use Rattle.templates.specs.Matching.{cut_at_bars};
 ghost use Rattle.blocks.specs.Tables.{text_for};
 ghost use Rattle.explanations.specs.Places.{run, in_word, token_from, IsToken, IsPlace};
-ghost use Rattle.explanations.specs.Faults.{no_fault, IsFault, fault_of};
+ghost use Rattle.explanations.specs.Faults.{fault_in, fault_of};
 ghost use Rattle.explanations.specs.Endings.{saves_from, saves_with, saves_here, saved, passes, fault_place};
 ghost use Rattle.explanations.specs.Endings.{wanted_word, wanted_of, wanted_text};
 ghost use Rattle.explanations.specs.Examples.{examples, form_words, details};
@@ -26,58 +26,31 @@ use limits::SCRATCH_NUMBERS;
 use templates::{LINE_FIGURES, bar_end};
 use tokens::{LINE_BYTES, TokenRange};
 
-// What a line is refused for: the number and the values that go with it, or zeros where it is not refused.
-#[derive(Clone, Copy)]
+// What a line is refused for: the number and the values that go with it.
+#[derive(Clone, Copy, PartialEq, Eq)]
 pub struct Fault {
     pub number: u64,
     pub first: u64,
     pub second: u64,
 }
 
-fn no_fault() -> Fault
-    ensures { result ≡ no_fault }
-{
-    Fault {
-        number: 0,
-        first: 0,
-        second: 0,
-    }
-}
-
 // Returns what an answer says of a refusal.
-fn fault_in(reply: Reply) -> Fault
-    ensures { IsFault reply result }
+fn fault_in(reply: Reply) -> Option<Fault>
+    ensures { result ≡ fault_in reply }
 {
-    let shape = reply.shape;
     let counts = reply.counts;
-    match shape {
-        Shape::Figures => no_fault(),
-        Shape::Area => no_fault(),
-        Shape::Joined => no_fault(),
-        Shape::Ring => no_fault(),
-        Shape::Body => no_fault(),
-        Shape::Closing => no_fault(),
-        Shape::Inside => no_fault(),
-        Shape::Edge => no_fault(),
-        Shape::Outside => no_fault(),
-        Shape::Moments => no_fault(),
-        Shape::Sound => no_fault(),
-        Shape::Taken => no_fault(),
-        Shape::Idle => no_fault(),
-        Shape::More => no_fault(),
-        Shape::Done => no_fault(),
-        Shape::DoneRefused => no_fault(),
-        Shape::Progress => no_fault(),
-        Shape::Refused => Fault {
+    match reply.shape {
+        Shape::Refused => Some(Fault {
             number: counts[0],
             first: counts[1],
             second: counts[2],
-        },
+        }),
+        _ => None,
     }
 }
 
-// Returns what a line that stands alone is refused for: the answer is that of a program which has read nothing else.
-fn fault_of(line: &[u8]) -> Fault
+// Returns what a line that stands alone is refused for, if it is: the answer is that of a program which has read nothing else.
+fn fault_of(line: &[u8]) -> Option<Fault>
     ensures { result ≡ fault_of line.now }
 {
     let mut values = [0.0; LINE_FIGURES];
@@ -130,15 +103,18 @@ fn token(line: &[u8], at: usize) -> TokenRange
     TokenRange { from, to }
 }
 
-// Tells whether a line with the fault `other` is saved from `fault`: it is a form, and refused for something else or
-// not at all. An ending by which it is 5 or 19 does not fit, and saves from 18 alone.
-fn saves_from(fault: Fault, other: Fault) -> bool
+// Tells whether a line with the fault `other`, or none, is saved from `fault`: it is a form, and refused for something
+// else or not at all. An ending by which it is 5 or 19 does not fit, and saves from 18 alone.
+fn saves_from(fault: Fault, other: Option<Fault>) -> bool
     ensures { result ≡ saves_from fault other }
 {
-    let same = (other.number == fault.number)
-        & ((other.first == fault.first) & (other.second == fault.second));
-    let fits = (other.number != 5) & (other.number != 19);
-    (other.number != 18) & (!same & ((fault.number == 18) | fits))
+    match other {
+        None => true,
+        Some(other) => {
+            let fits = (other.number != 5) & (other.number != 19);
+            (other.number != 18) & ((other != fault) & ((fault.number == 18) | fits))
+        }
+    }
 }
 
 // Tells whether an ending saves a line that begins with the first n bytes of `trial`.
@@ -449,10 +425,10 @@ fn put_found(out: &mut [u8], n: usize, table: &[u8], fault: Fault) -> usize
     let number = counts::put_count(&mut key, 0, fault.number);
     let space = texts::put_bytes(&mut key, number, b" ");
     let k = counts::put_count(&mut key, space, fault.first);
-    let p = blocks::lookup::find(table, &key[..k]);
-    let from = p.from;
-    let to = p.to;
-    texts::put_bytes(out, n, &table[from..to])
+    match blocks::lookup::find(table, &key[..k]) {
+        Some(p) => texts::put_bytes(out, n, &table[p.from..p.to]),
+        None => n,
+    }
 }
 
 // Appends what goes with the number: the edges of 7, or what the table has for it.
@@ -520,11 +496,10 @@ fn put_explained(out: &mut [u8], n: usize, line: &[u8]) -> usize
     ensures { Appended out.old n (explained line.now (fault_of line.now))
         out.new result }
 {
-    let fault = fault_of(line);
-    if fault.number == 0 {
-        return texts::put_bytes(out, n, b"accepted");
+    match fault_of(line) {
+        None => texts::put_bytes(out, n, b"accepted"),
+        Some(fault) => put_fault(out, n, line, fault),
     }
-    put_fault(out, n, line, fault)
 }
 
 // Appends the explanation of a line that is too long.

@@ -1,23 +1,9 @@
 -- `explanations::find_fault` meets its contract: as long as tokens pass, those that are left decide. Assumes nothing.
-use mathlib.Core.Path.{refl, sym, ◌∙◌}
+use mathlib.Core.Path.{sym, ◌∙◌}
 use native.Mathlib.Omega.{arith}
 use borrow.Author.Tests.{not-true, not-false}
 use Rattle.explanations.proofs.Saving.{stops, goes_on, no_turn_lem}
 use Rattle.explanations.proofs.find_fault.Goals as goal
-
-pub loop-turn-init : goal.loop-turn-init
-loop-turn-init c = (omega arith, refl, refl)
-
-pub token-f-requires : goal.token-f-requires
-token-f-requires c = c.loop-turn.invariant.0
-
-pub passes-requires : goal.passes-requires
-passes-requires c =
-    let l = c.loop-turn.invariant.1 in let h = c.requires in
-    (omega (arith, l, h), c.token-f.ensures.within)
-
-pub shape_of-trial-then-not-passes : goal.shape_of-trial-then-not-passes
-shape_of-trial-then-not-passes c = c.passes.auto.trial ∙ c.loop-turn.invariant.1
 
 pub returns-then-not-passes : goal.returns-then-not-passes
 returns-then-not-passes c =
@@ -35,9 +21,6 @@ loop-turn-preserved c = (
   c.loop-turn.invariant.2
       ∙ goes_on _ _ _ _ _ c.token-f.ensures.is _ _ (omega arith) (sym c.passes.ensures ∙ not-false _ c.if-not-passes.false-raw),
 )
-
-pub shape_of-trial : goal.shape_of-trial
-shape_of-trial c = c.loop-turn.invariant.1
 
 pub returns : goal.returns
 returns c =

@@ -1,23 +1,12 @@
 -- `explanations::is_saved` meets its contract: as long as no ending saved, those that are left decide. Assumes nothing.
 use mathlib.Core.List.{List}
-use mathlib.Core.Path.{refl, sym, ap, ◌∙◌}
+use mathlib.Core.Path.{sym, ap, ◌∙◌}
 use Prim.Native.Nat.{ℕ}
 use native.Mathlib.Omega.{arith}
 use lib.ListN.{drop, get_or}
 use Rattle.explanations.specs.Endings.{saves_here}
 use Rattle.explanations.proofs.Saving.{hit, miss, all_tried}
 use Rattle.explanations.proofs.is_saved.Goals as goal
-
-pub loop-j-init : goal.loop-j-init
-loop-j-init c = (refl, refl, refl)
-
-pub saves_here-requires : goal.saves_here-requires
-saves_here-requires c =
-    let l = c.loop-j.invariant.0 in let h = c.requires in
-    (omega (arith, l, h), omega arith)
-
-pub shape_of-trial-then-saves_here : goal.shape_of-trial-then-saves_here
-shape_of-trial-then-saves_here c = c.saves_here.auto.trial ∙ c.loop-j.invariant.0
 
 pub returns-then-saves_here : goal.returns-then-saves_here
 returns-then-saves_here c =
@@ -38,11 +27,5 @@ loop-j-preserved c =
       miss _ _ _ _ c.loop-j.invariant.2 (omega arith) (sym here ∙ c.if-saves_here.false),
     )
 
-pub shape_of-trial : goal.shape_of-trial
-shape_of-trial c = c.loop-j.invariant.0
-
-pub returns : goal.returns
-returns c = record {
-  value = all_tried _ _ _ _ c.loop-j.invariant.2 (omega arith);
-  trial_unchanged = c.loop-j.invariant.1;
-}
+pub returns-clause-value : goal.returns-clause-value
+returns-clause-value c = all_tried _ _ _ _ c.loop-j.invariant.2 (omega arith)

@@ -1,13 +1,9 @@
 -- `explanations::past_spaces` meets its contract: a space more is passed at each turn. Assumes nothing.
-use mathlib.Core.Path.{refl}
 use native.Mathlib.Omega.{arith}
 use borrow.Author.Tests.{eq-eqb, ne_eqb}
 use Rattle.explanations.specs.Places.{is_space}
 use Rattle.explanations.proofs.Places.{run_on, run_stops, run_ends}
 use Rattle.explanations.proofs.past_spaces.Goals as goal
-
-pub loop-i-init : goal.loop-i-init
-loop-i-init c = refl
 
 pub returns-then-line-i-ne32 : goal.returns-then-line-i-ne32
 returns-then-line-i-ne32 c =

@@ -6,16 +6,6 @@ use Rattle.counts.proofs.Printing.{twenty}
 use Rattle.explanations.proofs.Wanting.{also}
 use Rattle.explanations.proofs.put_byte.Goals as goal
 
-pub overflow_add-from : goal.overflow_add-from
-overflow_add-from c =
-    let h = c.requires.1 in omega (arith, h)
-
-pub put_count-requires : goal.put_count-requires
-put_count-requires c =
-    let h = c.requires.0 in let e = c.put_bytes-heading.ensures.ends in
-    let k = c.put_bytes-heading.auto.out in
-    omega (arith, h, e, k)
-
 pub returns : goal.returns
 unfolding text codes
 returns c =

@@ -11,10 +11,6 @@ use Rattle.explanations.proofs.Ends.{edges_few, detail_few}
 use Rattle.explanations.proofs.Wanting.{by_true, by_false}
 use Rattle.explanations.proofs.put_detail.Goals as goal
 
-pub put_edges-requires : goal.put_edges-requires
-put_edges-requires c =
-    let h = c.requires in omega (arith, h)
-
 pub returns-then-fault-eq7 : goal.returns-then-fault-eq7
 returns-then-fault-eq7 c =
     let e = c.put_edges.ensures.ends in let f = edges_few c.args.fault in record {

@@ -5,12 +5,6 @@ use Rattle.counts.proofs.Printing.{twenty}
 use Rattle.explanations.proofs.Wanting.{also}
 use Rattle.explanations.proofs.put_edges.Goals as goal
 
-pub put_count-first-requires : goal.put_count-first-requires
-put_count-first-requires c =
-    let h = c.requires in let e = c.put_bytes-heading.ensures.ends in
-    let k = c.put_bytes-heading.auto.out in
-    omega (arith, h, e, k)
-
 pub put_bytes-between-requires : goal.put_bytes-between-requires
 put_bytes-between-requires c =
     let h = c.requires in let e = c.put_bytes-heading.ensures.ends in

@@ -9,17 +9,6 @@ use Rattle.explanations.specs.Endings.{wanted_text}
 use Rattle.explanations.proofs.Wanting.{also, same_put}
 use Rattle.explanations.proofs.put_expected.Goals as goal
 
-pub put_bytes-m-requires : goal.put_bytes-m-requires
-put_bytes-m-requires c =
-    let l = length-take c.args.from c.args.line.now in let h = c.requires.2 in
-    omega (arith, l, h)
-
-pub put_bytes-k-requires : goal.put_bytes-k-requires
-put_bytes-k-requires c =
-    let l = length-take c.args.from c.args.line.now in let h = c.requires.2 in
-    let e = c.put_bytes-m.ensures.ends in let k = c.put_bytes-m.auto.out in
-    omega (arith, l, h, e, k)
-
 pub put_wanted-requires : goal.put_wanted-requires
 put_wanted-requires c =
     let s = c.args in

@@ -5,12 +5,6 @@ use Rattle.blocks.proofs.Said.{refusal_fits}
 use Rattle.explanations.proofs.Wanting.{also}
 use Rattle.explanations.proofs.put_fault.Goals as goal
 
-pub put_refusal-sentence-requires : goal.put_refusal-sentence-requires
-put_refusal-sentence-requires c =
-    let h = c.requires.0 in let e = c.put_bytes-heading.ensures.ends in
-    let k = c.put_bytes-heading.auto.out in
-    omega (arith, h, e, k)
-
 pub put_detail-detail-requires : goal.put_detail-detail-requires
 put_detail-detail-requires c =
     let h = c.requires.0 in let e = c.put_bytes-heading.ensures.ends in let k = c.put_bytes-heading.auto.out in

@@ -9,6 +9,7 @@ use Rattle.tokens.specs.Text.{text, codes}
 use Rattle.counts.proofs.Printing.{twenty}
 use Rattle.templates.specs.Matching.{cut_at_bars}
 use Rattle.blocks.specs.Tables.{text_for}
+use Rattle.texts.proofs.Appending.{nothing}
 use Rattle.explanations.proofs.Wanting.{also, same_put, part_length}
 use Rattle.explanations.proofs.put_found.Goals as goal
 
@@ -39,27 +40,25 @@ slice_bounds-find-end c =
     let g = c.put_count-k.ensures.ends in let m = c.put_count-k.auto.out in let u = twenty c.args.fault.first in
     sym (length-take-le c.put_count-k.result c.put_count-k.new.out (omega (arith, e, k, t, f, l, g, m, u)))
 
-pub find-p-requires : goal.find-p-requires
-find-p-requires c =
-    c.requires.1
-
-pub slice_bounds-put_bytes-count : goal.slice_bounds-put_bytes-count
-slice_bounds-put_bytes-count c =
-    c.find-p.ensures.ordered
-
 pub put_bytes-requires : goal.put_bytes-requires
 unfolding text codes
 put_bytes-requires c =
-    let f = c.find-p in
-    let l = part_length c.args.table.now f.result.from f.result.to f.ensures.ordered f.ensures.within in
-    let e = ap length (c.find-p.ensures.is ∙ ap (λ (k : List ℕ). text_for k (cut_at_bars c.args.table.now))
+    let p = c.in-Some.p in
+    let l = part_length c.args.table.now p.from p.to c.in-Some.ensures.ordered c.in-Some.ensures.within in
+    let e = ap length (c.in-Some.ensures.is ∙ ap (λ (k : List ℕ). text_for k (cut_at_bars c.args.table.now))
     (also c.put_count-number.ensures (also c.put_bytes-space.ensures c.put_count-k.ensures)).holds)
     in
     let h = c.requires.0 in let g = c.requires.2 in
     omega (arith, l, e, h, g)
 
-pub returns : goal.returns
+pub returns-in-Some : goal.returns-in-Some
 unfolding text codes
-returns c =
-    same_put (c.find-p.ensures.is ∙ ap (λ (k : List ℕ). text_for k (cut_at_bars c.args.table.now))
+returns-in-Some c =
+    same_put (c.in-Some.ensures.is ∙ ap (λ (k : List ℕ). text_for k (cut_at_bars c.args.table.now))
     (also c.put_count-number.ensures (also c.put_bytes-space.ensures c.put_count-k.ensures)).holds) c.put_bytes.ensures
+
+pub returns-in-None : goal.returns-in-None
+unfolding text codes
+returns-in-None c =
+    same_put (c.in-None.ensures ∙ ap (λ (k : List ℕ). text_for k (cut_at_bars c.args.table.now))
+    (also c.put_count-number.ensures (also c.put_bytes-space.ensures c.put_count-k.ensures)).holds) (nothing _ _)

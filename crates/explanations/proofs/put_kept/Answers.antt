@@ -7,11 +7,6 @@ use Rattle.explanations.specs.Explanations.{explained, too_long, explanation_of}
 use Rattle.explanations.proofs.Wanting.{by_true, by_false}
 use Rattle.explanations.proofs.put_kept.Goals as goal
 
-pub returns-then-over : goal.returns-then-over
-returns-then-over c =
-    by_true (explanation_of c.args.line.now)
-    c.if-over.true c.put_long.ensures
-
 pub returns-then-line-gt-LINE_BYTES : goal.returns-then-line-gt-LINE_BYTES
 unfolding explanation_of
 returns-then-line-gt-LINE_BYTES c =

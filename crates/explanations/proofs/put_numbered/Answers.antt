@@ -6,16 +6,6 @@ use Rattle.explanations.proofs.Ends.{kept_few}
 use Rattle.explanations.proofs.Wanting.{also}
 use Rattle.explanations.proofs.put_numbered.Goals as goal
 
-pub returns-then-out-lt1050 : goal.returns-then-out-lt1050
-returns-then-out-lt1050 c =
-    λ h. absurd (let t = c.if-out-lt1050.true in let y : ⊥ = omega (arith, h, t) in y)
-
-pub put_count-digits-requires : goal.put_count-digits-requires
-put_count-digits-requires c =
-    let h = c.if-out-lt1050.false in let e = c.put_bytes-word.ensures.ends in
-    let k = c.put_bytes-word.auto.out in
-    omega (arith, h, e, k)
-
 pub put_bytes-heading-requires : goal.put_bytes-heading-requires
 put_bytes-heading-requires c =
     let h = c.if-out-lt1050.false in

@@ -7,16 +7,6 @@ use Rattle.explanations.proofs.Wanting.{also, same_put, part_length}
 use Rattle.explanations.proofs.Ends.{short_order, short_within, short_few}
 use Rattle.explanations.proofs.put_shown.Goals as goal
 
-pub short_end-end-requires : goal.short_end-end-requires
-short_end-end-requires c =
-    c.requires.1
-
-pub slice_bounds-put_bytes-count : goal.slice_bounds-put_bytes-count
-slice_bounds-put_bytes-count c =
-    let e = c.short_end-end.ensures in
-    let o = short_order c.args.f.from c.args.f.to c.requires.1 in
-    omega (arith, e, o)
-
 pub put_bytes-requires : goal.put_bytes-requires
 put_bytes-requires c =
     let e = c.short_end-end.ensures in

@@ -2,7 +2,6 @@
 use mathlib.Core.List.{List}
 use mathlib.Core.Path.{sym, ap, ◌∙◌}
 use Prim.Native.Nat.{ℕ}
-use native.Mathlib.Omega.{arith}
 use lib.ListN.{take}
 use Rattle.tokens.specs.Text.{text, codes}
 use Rattle.templates.specs.Matching.{cut_at_bars}
@@ -16,11 +15,6 @@ returns-then-word_saves c =
     let s = c.args in
     by_true (wanted_of s.fault s.endings.now (take s.k s.trial.now) (cut_at_bars s.table.now))
     (sym c.word_saves.ensures.value ∙ c.if-word_saves.true) c.put_bytes.ensures
-
-pub put_words-requires : goal.put_words-requires
-put_words-requires c =
-    let l = c.word_saves.auto.trial in let g = c.requires.0 in let h = c.requires.1 in
-    (omega (arith, g), omega (arith, h, l))
 
 pub returns : goal.returns
 unfolding text codes

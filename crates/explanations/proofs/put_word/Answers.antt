@@ -1,6 +1,5 @@
 -- `explanations::put_word` meets its contract: the word is put where the start with it is saved. Assumes nothing.
 use mathlib.Core.Path.{sym, ◌∙◌}
-use native.Mathlib.Omega.{arith}
 use borrow.Author.Tests.{not-true, not-false}
 use lib.ListN.{take}
 use Rattle.explanations.proofs.Wanting.{not_wanted, is_wanted}
@@ -13,15 +12,6 @@ returns-then-not-word_saves c =
           (sym c.word_saves.ensures.value ∙ not-true _ c.if-not-word_saves.true-raw);
       trial_unchanged = c.word_saves.ensures.trial_unchanged;
     }
-
-pub put_bytes-space-requires : goal.put_bytes-space-requires
-put_bytes-space-requires c = let h = c.requires.0 in omega (arith, h)
-
-pub put_bytes-requires : goal.put_bytes-requires
-put_bytes-requires c =
-    let h = c.requires.0 in
-    let e = c.put_bytes-space.ensures.ends in let k = c.put_bytes-space.auto.out in
-    omega (arith, h, e, k)
 
 pub returns : goal.returns
 returns c =

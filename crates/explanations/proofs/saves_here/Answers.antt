@@ -18,9 +18,6 @@ returns-then-endings-j-ne32 c =
       trial_unchanged = refl;
     }
 
-pub slice_bounds-saves_with-count : goal.slice_bounds-saves_with-count
-slice_bounds-saves_with-count c = c.bar_end-end.ensures.behind
-
 pub saves_with-requires : goal.saves_with-requires
 saves_with-requires c =
     let e = part_length c.args.endings.now c.args.j c.bar_end-end.result c.bar_end-end.ensures.behind

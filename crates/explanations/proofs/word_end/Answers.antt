@@ -1,13 +1,10 @@
 -- `explanations::word_end` meets its contract: a byte more of the word is passed at each turn. Assumes nothing.
 use mathlib.Core.Bool.{not}
-use mathlib.Core.Path.{refl, sym, ap, ◌∙◌}
+use mathlib.Core.Path.{sym, ap, ◌∙◌}
 use native.Mathlib.Omega.{arith}
 use Rattle.explanations.specs.Places.{in_word}
 use Rattle.explanations.proofs.Places.{run_on, run_stops, run_ends}
 use Rattle.explanations.proofs.word_end.Goals as goal
-
-pub loop-i-init : goal.loop-i-init
-loop-i-init c = refl
 
 pub returns-then-ends_word : goal.returns-then-ends_word
 returns-then-ends_word c = (

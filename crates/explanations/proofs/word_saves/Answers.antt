@@ -7,11 +7,6 @@ use Rattle.explanations.specs.Endings.{saved}
 use Rattle.explanations.proofs.Saving.{start_kept, less_kept}
 use Rattle.explanations.proofs.word_saves.Goals as goal
 
-pub is_saved-requires : goal.is_saved-requires
-is_saved-requires c =
-    let e = c.put_bytes-m.ensures.ends in let k = c.put_bytes-m.auto.out in let h = c.requires in
-    omega (arith, e, k, h)
-
 pub returns : goal.returns
 returns c =
     let e = c.put_bytes-m.ensures.ends in let h = c.requires in record {

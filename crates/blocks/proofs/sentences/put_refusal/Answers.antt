@@ -13,12 +13,6 @@ use Rattle.blocks.specs.Tables.{text_for}
 use Rattle.blocks.specs.Cards.{or_else, sentences}
 use Rattle.blocks.proofs.sentences.put_refusal.Goals as goal
 
-pub put_bytes-end-requires : goal.put_bytes-end-requires
-put_bytes-end-requires c =
-    let e = c.put_count-colon.ensures.ends in
-    let t = twenty c.args.number in
-    omega (arith, e, t, c.requires)
-
 pub slice_bounds-key-end : goal.slice_bounds-key-end
 slice_bounds-key-end c =
     let e = c.put_count-k.ensures.ends in

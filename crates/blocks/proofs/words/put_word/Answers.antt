@@ -1,6 +1,6 @@
 -- `blocks::words::put_word` meets its contract: by what the word is. Assumes nothing.
 use mathlib.Core.Path.{sym, ◌∙◌}
-use Rattle.blocks.proofs.Reading.{word_none, word_figure, word_other}
+use Rattle.blocks.proofs.Reading.{word_none, word_figure}
 use Rattle.blocks.proofs.words.put_word.Goals as goal
 
 pub returns-then-word-eq0 : goal.returns-then-word-eq0
@@ -14,9 +14,3 @@ returns-in-Some c =
     word_figure s.word.now s.p c.put_figure.result s.shape.now c.put_figure.new.shape _ s.figures.now
     c.put_figure.new.figures s.counts.now (sym c.in-Some.is ∙ c.read_figure.ensures)
     c.put_figure.ensures
-
-pub returns-in-None : goal.returns-in-None
-returns-in-None c =
-    let s = c.args in
-    word_other s.word.now s.p c.put_other.result s.shape.now c.put_other.new.shape s.figures.now s.counts.now
-    c.put_other.new.counts (sym c.in-None.is ∙ c.read_figure.ensures) c.put_other.ensures

@@ -1,19 +1,9 @@
 -- `blocks::words::read_answer` meets its contract: what was read with what is still to come is the whole. Assumes nothing.
-use mathlib.Core.Path.{refl, ◌∙◌}
+use mathlib.Core.Path.{◌∙◌}
 use native.Mathlib.Omega.{arith}
 use Rattle.tokens.specs.Found.{part}
-use Rattle.blocks.proofs.Reading.{nothing_read, one_word, all_read, part_length, shape_short}
+use Rattle.blocks.proofs.Reading.{one_word, all_read, part_length, shape_short}
 use Rattle.blocks.proofs.words.read_answer.Goals as goal
-
-pub loop-i-init : goal.loop-i-init
-loop-i-init c =
-    (nothing_read c.args.line.now c.args.shape.now c.args.figures.now c.args.counts.now, refl, refl, refl)
-
-pub word_end-to-requires : goal.word_end-to-requires
-word_end-to-requires c = omega arith
-
-pub slice_bounds-put_word-count : goal.slice_bounds-put_word-count
-slice_bounds-put_word-count c = let e = c.word_end-to.ensures.behind in omega (arith, e)
 
 pub put_word-w-requires : goal.put_word-w-requires
 put_word-w-requires c =
@@ -46,18 +36,6 @@ put_end-r-requires c =
     let ps = c.requires.line_in_bounds.0 in
     omega (arith, h, l, vb, behind, within, short, ends, kept, ps, v.1)
 
-pub overflow_add-i : goal.overflow_add-i
-overflow_add-i c =
-    let within = c.word_end-to.ensures.within in
-    let p = c.requires.line_in_bounds_2.1 in
-    omega (arith, within, p)
-
-pub loop-i-smaller : goal.loop-i-smaller
-loop-i-smaller c =
-    let t = c.loop-i-test.true in
-    let behind = c.word_end-to.ensures.behind in
-    omega (arith, t, behind)
-
 pub loop-i-preserved : goal.loop-i-preserved
 loop-i-preserved c =
     let v = c.loop-i.invariant in (
@@ -69,15 +47,6 @@ loop-i-preserved c =
       c.put_word-w.auto.figures ∙ v.2,
       c.put_word-w.auto.counts ∙ v.3,
     )
-
-pub shape_of-shape : goal.shape_of-shape
-shape_of-shape c = c.loop-i.invariant.1
-
-pub shape_of-figures : goal.shape_of-figures
-shape_of-figures c = c.loop-i.invariant.2
-
-pub shape_of-counts : goal.shape_of-counts
-shape_of-counts c = c.loop-i.invariant.3
 
 pub returns : goal.returns
 returns c =

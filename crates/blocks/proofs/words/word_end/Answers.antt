@@ -4,14 +4,8 @@ use mathlib.Core.Path.{◌≡◌, sym, ◌∙◌}
 use native.Mathlib.Omega.{arith}
 use lib.ListN.{length}
 use Rattle.blocks.specs.Words.{word_shape, word_figures, word_counts}
-use Rattle.blocks.proofs.Reading.{begins, grows}
+use Rattle.blocks.proofs.Reading.{grows}
 use Rattle.blocks.proofs.words.word_end.Goals as goal
-
-pub loop-end-init : goal.loop-end-init
-loop-end-init c =
-    let l = c.args.line.now in
-    let i = c.args.at in
-    (begins word_shape (λ b. b ∷ []) l i, begins word_figures (λ b. []) l i, begins word_counts (λ b. []) l i)
 
 pub returns-then-ends_word : goal.returns-then-ends_word
 returns-then-ends_word c =
