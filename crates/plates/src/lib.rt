@@ -8,7 +8,7 @@
 #![tactic(auto)]
 
 ghost use Rattle.std.specs.Prelude.{◌≡◌};
-ghost use Rattle.plates.specs.Integrals.{unscaled_of, slab_of, tab_integrals_of, add_integrals};
+ghost use Rattle.plates.specs.Integrals.{unscaled_of, slab_of, tab_integrals_of};
 ghost use Rattle.plates.specs.Plates.{about_origin, plate_body, with_fillets, canted_of, integrals_of, fin_of};
 
 use bodies::{Body, Tensor, Vector};
@@ -69,20 +69,6 @@ pub fn tab_integrals(tab: Tab, thickness_m: f64, body_radius_m: f64) -> [f64; 7]
             offset_m + length_m,
         ),
     }
-}
-
-fn sum(fin: [f64; 7], tab: [f64; 7]) -> [f64; 7]
-    ensures { result ≡ add_integrals fin tab }
-{
-    [
-        fin[0] + tab[0],
-        fin[1] + tab[1],
-        fin[2] + tab[2],
-        fin[3] + tab[3],
-        fin[4] + tab[4],
-        fin[5] + tab[5],
-        fin[6] + tab[6],
-    ]
 }
 
 // Returns the tensor about the origin of the plate with the integrals v.
@@ -148,7 +134,7 @@ pub fn integrals(set: FinSet, scale_m: f64, total: [f64; 7]) -> [f64; 7]
 {
     let tab = set.tab;
     let below = tab_integrals(tab, set.thickness_m, set.body_radius_m);
-    sum(unscaled(total, scale_m), below)
+    pieces::plus(unscaled(total, scale_m), below)
 }
 
 // Returns one fin with the integrals v and its fillets at roll angle 0, canted. A density that is taken is bulk.

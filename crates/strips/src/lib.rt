@@ -17,7 +17,8 @@ use halving::{Integral, NotConverged, Totals};
 use integrands::Integrand;
 use std::num::wrapping_add_usize;
 
-// The totals after a strip, where the next one begins, and whether there is a next.
+// The totals after a strip, where the next one begins, and whether there is a next. `next` is no Option: it is read
+// where `more` is false too, since a job that has ended keeps it.
 #[derive(Clone, Copy)]
 pub struct Advance {
     pub total: Integral,

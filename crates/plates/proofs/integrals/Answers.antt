@@ -2,4 +2,4 @@
 use Rattle.plates.proofs.integrals.Goals as goal
 
 pub returns : goal.returns
-returns c = rw (c.sum.ensures, c.unscaled.ensures, c.tab_integrals-below.ensures)
+returns c = rw (c.plus.ensures, c.unscaled.ensures, c.tab_integrals-below.ensures)
