@@ -50,6 +50,7 @@ fn slab_integrals(t: f64, h: f64, l: f64, r0: f64, r1: f64, x0: f64, x1: f64) ->
 }
 
 // Returns the integrals of the tab below the root, or zeros where there is none.
+#[tactic(auto, unfolding(crate::specs::Integrals::tab_integrals_of))]
 pub fn tab_integrals(tab: Tab, thickness_m: f64, body_radius_m: f64) -> [f64; 7]
     ensures { result ≡ tab_integrals_of tab thickness_m body_radius_m }
 {
@@ -86,6 +87,7 @@ fn about_origin(v: [f64; 7], kg_m3: f64) -> Tensor
 }
 
 // Returns the plate with the integrals v, its tensor moved from the origin to the centre.
+#[tactic(auto, unfolding(crate::specs::Plates::plate_body))]
 fn plate(v: [f64; 7], kg_m3: f64) -> Body
     ensures { result ≡ plate_body v kg_m3 }
 {
@@ -102,6 +104,7 @@ fn plate(v: [f64; 7], kg_m3: f64) -> Body
 
 // Returns the plate joined with the fillets at its root. Where these weigh nothing, nothing is joined, and the plate
 // stays bit for bit.
+#[tactic(auto, unfolding(crate::specs::Plates::with_fillets))]
 fn with_fillets(plate: Body, fillets: Body) -> Body
     ensures { result ≡ with_fillets plate fillets }
 {
@@ -113,6 +116,7 @@ fn with_fillets(plate: Body, fillets: Body) -> Body
 
 // Returns the fin turned by the cant about the span axis through `pivot_m`. A cant of either zero leaves it bit for
 // bit.
+#[tactic(auto, unfolding(crate::specs::Plates::canted_of))]
 fn canted(fin: Body, cant_rad: f64, pivot_m: Vector) -> Body
     ensures { result ≡ canted_of fin cant_rad pivot_m }
 {
@@ -138,6 +142,7 @@ pub fn integrals(set: FinSet, scale_m: f64, total: [f64; 7]) -> [f64; 7]
 }
 
 // Returns one fin with the integrals v and its fillets at roll angle 0, canted. A density that is taken is bulk.
+#[tactic(auto, unfolding(crate::specs::Plates::fin_of))]
 pub fn fin(set: FinSet, root_chord_m: f64, v: [f64; 7]) -> Body
     ensures { result ≡ fin_of set root_chord_m v }
 {
