@@ -145,6 +145,7 @@ fn chord_sums(kind: Kind, scale: f64, h: f64, ends: &[f64]) -> [f64; 4]
 {
     let mut sums = [0.0; 4];
     for k in 0..ends.len() / 2 {
+        // Two lines: the check does not cover a call's array laid straight into a variable of the loop.
         let more = add_chord(sums, kind, scale, h, ends[2 * k], ends[2 * k + 1]);
         sums = more;
     }

@@ -6,12 +6,12 @@
 // at the library's edge, as their numbers; either is read twice, body by body.
 #![tactic(auto)]
 
-ghost use Rattle.std.specs.Prelude.{◌≡◌, ◌+◌, ◌*◌, ◌≤◌, length};
+ghost use Rattle.std.specs.Prelude.{◌≡◌, ◌+◌, ◌*◌, ◌≤◌, length, fold};
 ghost use Rattle.bodies.specs.Layout.{body_numbers};
 ghost use Rattle.joins.specs.Flat.{body_at, with_body};
 ghost use Rattle.joins.specs.Joins.{sums_of, no_sums, add_body, centre_of, at_centre, add_inertia, join_of, two_bodies};
 ghost use Rattle.joins.specs.Joins.{IsJoined, combine_of};
-ghost use Rattle.joins.specs.Lists.{join_list, add_each};
+ghost use Rattle.joins.specs.Lists.{join_list};
 
 use bodies::{BODY_NUMBERS, Body, Vector};
 use refusals::Refusal;
@@ -79,24 +79,20 @@ pub fn join(bodies: &[Body]) -> Body
 
 // Returns the sums with every body of the list, in order.
 fn add_bodies(start: Sums, bodies: &[Body]) -> Sums
-    ensures { result ≡ add_each add_body start bodies.now }
+    ensures { result ≡ fold add_body start bodies.now }
 {
-    let mut sums = start;
-    for body in bodies {
-        sums = add_body(sums, *body);
-    }
-    sums
+    bodies
+        .iter()
+        .fold(start, |sums, body| add_body(sums, *body))
 }
 
 // Returns the joined body with the tensor of every body of the list, in order.
 fn add_inertias(start: Body, bodies: &[Body]) -> Body
-    ensures { result ≡ add_each add_inertia start bodies.now }
+    ensures { result ≡ fold add_inertia start bodies.now }
 {
-    let mut joined = start;
-    for body in bodies {
-        joined = add_inertia(joined, *body);
-    }
-    joined
+    bodies
+        .iter()
+        .fold(start, |joined, body| add_inertia(joined, *body))
 }
 
 // Writes `body` over body k of the slice.

@@ -8,7 +8,7 @@
 #![tactic(auto)]
 
 ghost use Rattle.std.specs.Prelude.{◌≡◌};
-ghost use Rattle.plates.specs.Integrals.{unscaled_of, slab_of, tab_integrals_of, add_integrals};
+ghost use Rattle.plates.specs.Integrals.{unscaled_of, slab_of, tab_integrals_of};
 ghost use Rattle.plates.specs.Plates.{about_origin, plate_body, with_fillets, canted_of, integrals_of, fin_of};
 
 use bodies::{Body, Tensor, Vector};
@@ -50,6 +50,7 @@ fn slab_integrals(t: f64, h: f64, l: f64, r0: f64, r1: f64, x0: f64, x1: f64) ->
 }
 
 // Returns the integrals of the tab below the root, or zeros where there is none.
+#[tactic(auto, unfolding(crate::specs::Integrals::tab_integrals_of))]
 pub fn tab_integrals(tab: Option<FinTab>, thickness_m: f64, body_radius_m: f64) -> [f64; 7]
     ensures { result ≡ tab_integrals_of tab thickness_m body_radius_m }
 {
@@ -67,20 +68,6 @@ pub fn tab_integrals(tab: Option<FinTab>, thickness_m: f64, body_radius_m: f64) 
     }
 }
 
-fn sum(fin: [f64; 7], tab: [f64; 7]) -> [f64; 7]
-    ensures { result ≡ add_integrals fin tab }
-{
-    [
-        fin[0] + tab[0],
-        fin[1] + tab[1],
-        fin[2] + tab[2],
-        fin[3] + tab[3],
-        fin[4] + tab[4],
-        fin[5] + tab[5],
-        fin[6] + tab[6],
-    ]
-}
-
 // Returns the tensor about the origin of the plate with the integrals v.
 fn about_origin(v: [f64; 7], kg_m3: f64) -> Tensor
     ensures { result ≡ about_origin v kg_m3 }
@@ -96,6 +83,7 @@ fn about_origin(v: [f64; 7], kg_m3: f64) -> Tensor
 }
 
 // Returns the plate with the integrals v, its tensor moved from the origin to the centre.
+#[tactic(auto, unfolding(crate::specs::Plates::plate_body))]
 fn plate(v: [f64; 7], kg_m3: f64) -> Body
     ensures { result ≡ plate_body v kg_m3 }
 {
@@ -112,6 +100,7 @@ fn plate(v: [f64; 7], kg_m3: f64) -> Body
 
 // Returns the plate joined with the fillets at its root. Where these weigh nothing, nothing is joined, and the plate
 // stays bit for bit.
+#[tactic(auto, unfolding(crate::specs::Plates::with_fillets))]
 fn with_fillets(plate: Body, fillets: Body) -> Body
     ensures { result ≡ with_fillets plate fillets }
 {
@@ -123,6 +112,7 @@ fn with_fillets(plate: Body, fillets: Body) -> Body
 
 // Returns the fin turned by the cant about the span axis through `pivot_m`. A cant of either zero leaves it bit for
 // bit.
+#[tactic(auto, unfolding(crate::specs::Plates::canted_of))]
 fn canted(fin: Body, cant_rad: f64, pivot_m: Vector) -> Body
     ensures { result ≡ canted_of fin cant_rad pivot_m }
 {
@@ -144,10 +134,11 @@ pub fn integrals(set: FinSet, scale_m: f64, total: [f64; 7]) -> [f64; 7]
 {
     let tab = set.tab;
     let below = tab_integrals(tab, set.thickness_m, set.body_radius_m);
-    sum(unscaled(total, scale_m), below)
+    pieces::plus(unscaled(total, scale_m), below)
 }
 
 // Returns one fin with the integrals v and its fillets at roll angle 0, canted. A density that is taken is bulk.
+#[tactic(auto, unfolding(crate::specs::Plates::fin_of))]
 pub fn fin(set: FinSet, root_chord_m: f64, v: [f64; 7]) -> Body
     ensures { result ≡ fin_of set root_chord_m v }
 {

@@ -175,8 +175,7 @@ fn chords_found(
 {
     let mut found = [Chords::Nothing; PIECE_SAMPLES];
     for i in 0..PIECE_SAMPLES {
-        let one = integrands::chords_at(integrand, points, edges, heights[i]);
-        found[i] = one;
+        found[i] = integrands::chords_at(integrand, points, edges, heights[i]);
     }
     found
 }
@@ -200,6 +199,7 @@ fn sums(integrand: Integrand, points: &[f64], centre: f64, half: f64) -> Tally
         let h = heights[j];
         let one = found[j];
         let y = integrands::values_over(one, kind, scale, points, &edges[..n], h);
+        // Two lines each: the check does not cover a call's array laid straight into a variable of the loop.
         let k = plus_weighted(kronrod, kw[j], y);
         let g = plus_weighted(gauss, gw[j], y);
         kronrod = k;

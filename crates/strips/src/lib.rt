@@ -17,8 +17,8 @@ use halving::{Integral, NotConverged, Totals};
 use integrands::Integrand;
 use std::num::wrapping_add_usize;
 
-// The totals after a strip, where the next one begins, and whether there is a next. A job that has ended keeps the
-// place, so it stands in no Option.
+// The totals after a strip, where the next one begins, and whether there is a next. `next` is no Option: it is read
+// where `more` is false too, since a job that has ended keeps it.
 #[derive(Clone, Copy)]
 pub struct Advance {
     pub total: Integral,
