@@ -12,9 +12,9 @@ use Rattle.explanations.specs.Faults.{fault_of}
 abbrev pub same_fault : Fault → Fault → Bool
 same_fault a b = eqb a.number b.number && (eqb a.first b.first && eqb a.second b.second)
 
--- a line with the fault `other`, or none, is saved from `fault`: it is a form, and is refused for something else or not
--- at all. An ending that leaves half a point, 5, or puts a word in a figure's place, 19, does not fit, and saves from 18
--- alone.
+-- a line with the fault `other`, or none, is saved from `fault`: it is a form, and is refused for something else or
+-- not at all. An ending that leaves half a point, 5, or puts a word in a figure's place, 19, does not fit, and saves
+-- from 18 alone.
 abbrev pub saves_from : Fault → Option Fault → Bool
 saves_from fault None = true
 saves_from fault (Some other) =

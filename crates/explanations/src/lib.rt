@@ -49,7 +49,8 @@ fn fault_in(reply: Reply) -> Option<Fault>
     }
 }
 
-// Returns what a line that stands alone is refused for, if it is: the answer is that of a program which has read nothing else.
+// Returns what a line that stands alone is refused for, if it is: the answer is that of a program which has read
+// nothing else.
 fn fault_of(line: &[u8]) -> Option<Fault>
     ensures { result ≡ fault_of line.now }
 {

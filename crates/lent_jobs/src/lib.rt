@@ -127,14 +127,6 @@ fn write_over<T: Copy>(list: &mut [T], at: usize, written: &[T])
     list[at..at + written.len()].copy_from_slice(written);
 }
 
-// Writes `written` over the first counts.
-pub fn write_counts(counts: &mut [usize], written: &[usize])
-    requires { length written.now ≤ length counts.old }
-    ensures { counts.new ≡ paste counts.old 0 written.now (length written.now) }
-{
-    write_over(counts, 0, written);
-}
-
 // Writes a job over the start of both lists.
 pub fn write_job(numbers: &mut [f64], counts: &mut [usize], job: Job)
     requires { Room numbers.old counts.old }
@@ -149,7 +141,7 @@ pub fn write_job(numbers: &mut [f64], counts: &mut [usize], job: Job)
     let outline = points.numbers;
     write_over(numbers, OUTLINE, &outline[..OUTLINE_NUMBERS]);
     let of_job = counts_of(job);
-    write_counts(counts, &of_job[..JOB_COUNTS]);
+    write_over(counts, 0, &of_job[..JOB_COUNTS]);
 }
 
 fn read_set(numbers: &[f64], counts: &[usize]) -> FinSet
@@ -270,10 +262,7 @@ pub fn step_row(numbers: &[f64], counts: &[usize], progress: Progress) -> Row
 {
     match progress {
         Progress::Short => {
-            let figures = figures::bare_figures(
-                Err(Refusal::Scratch),
-                counts[SAMPLES],
-            );
+            let figures = figures::bare_figures(Err(Refusal::Scratch), counts[SAMPLES]);
             jobs::figures_row(figures)
         }
         Progress::More => jobs::plain_row(MORE),

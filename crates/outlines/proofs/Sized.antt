@@ -43,8 +43,7 @@ module _ (points : List Float) (f : (i : ℕ) → T (fits binary64 (at points i)
       let p : Bool = eq (x_at points 0) (bits 0) && eq (height_at points 0) (bits 0) in
       let c : Bool = lt (bits 0) (x_at points (n - 1)) in
       let d : Bool = eq (height_at points (n - 1)) (bits 0) in
-      let ends = holds (p && c && d) Ends (outline_accepted points h).ends in
-      (
+      let ends = holds (p && c && d) Ends (outline_accepted points h).ends in (
         λ i l. point_sized i (points_accepted points h i l),
         last_sized n three (points_accepted points h (n - 1) (omega arith)) (both_true p c (both_true (p && c) d ends).0).1,
       )

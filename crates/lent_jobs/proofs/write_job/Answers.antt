@@ -19,4 +19,4 @@ returns c =
     job_written c.args.job (sized c.args.job _ c.well_formed.1.1.0) _ _ _ _ _ _ _ _ _
     c.numbers_of-of_set.ensures c.write_over.ensures c.worked_numbers-worked.ensures c.write_over-2.ensures
     c.write_over-3.ensures
-    c.counts_of-of_job.ensures c.write_counts.ensures
+    c.counts_of-of_job.ensures c.write_over-4.ensures
