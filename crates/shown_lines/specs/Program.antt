@@ -2,12 +2,11 @@
 -- say (docs/ASSUMED.md). The records below name what each of them gave; they say how the bytes in the chunk are shown,
 -- and which block the first bytes of `out` are, which are handed to write; and they count the bytes that were read, and
 -- those that were handed to write.
-use Rattle.std.specs.Prelude.{List, [], ◌∷◌, ◌++◌, Bool, true, false, ◌&&◌, cond, ◌≡◌, ℕ, ◌+◌, ◌-◌, ◌*◌, ◌<◌, ◌≤◌, leb, length, take, drop}
-use Rattle.tokens.specs.Tokens.{line_bytes}
+use Rattle.std.specs.Prelude.{List, [], ◌∷◌, ◌++◌, Bool, true, ◌&&◌, cond, ◌≡◌, ℕ, ◌+◌, ◌<◌, ◌≤◌, length, take}
 use Rattle.tokens.specs.Text.{text}
 use Rattle.reads.specs.Reads.{brought, at_end, most_read}
 use Rattle.input_lines.specs.declared.State.{State}
-use Rattle.input_lines.specs.Lines.{lines_within, last_line, lines_of}
+use Rattle.input_lines.specs.Lines.{lines_within, lines_of}
 use Rattle.input_lines.specs.Kept.{Keeps}
 use Rattle.input_lines.specs.Taking.{Place}
 use Rattle.line_runs.specs.declared.Last.{Last}

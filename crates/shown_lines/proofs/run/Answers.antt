@@ -1,9 +1,4 @@
 -- `shown_lines::run` meets its contract: a run over the input whose lines are shown. Assumes nothing.
-use mathlib.Core.Path.{◌≡◌, ap, ◌∙◌}
-use mathlib.Core.List.{List}
-use Prim.Native.Nat.{ℕ, ◌+◌}
-use native.Mathlib.Omega.{arith}
-use Rattle.shown_lines.specs.Program.{blocks_from}
 use Rattle.shown_lines.proofs.run.Goals as goal
 
 pub returns : goal.returns
