@@ -50,6 +50,7 @@ fn slab_integrals(t: f64, h: f64, l: f64, r0: f64, r1: f64, x0: f64, x1: f64) ->
 }
 
 // Returns the integrals of the tab below the root, or zeros where there is none.
+#[tactic(auto, unfolding(crate::specs::Integrals::tab_integrals_of))]
 pub fn tab_integrals(tab: Option<FinTab>, thickness_m: f64, body_radius_m: f64) -> [f64; 7]
     ensures { result ≡ tab_integrals_of tab thickness_m body_radius_m }
 {
