@@ -237,6 +237,7 @@ fn check_slab(height_m: f64, length_m: f64, offset_m: f64, root_chord_m: f64) ->
     refusals::refuse_when(off_root, Refusal::TabOffRoot)
 }
 
+#[tactic(auto, unfolding(crate::specs::Fins::tab_check))]
 fn check_tab(tab: Option<FinTab>, root_chord_m: f64) -> Verdict
     ensures { result ≡ tab_check tab root_chord_m }
 {
@@ -247,6 +248,7 @@ fn check_tab(tab: Option<FinTab>, root_chord_m: f64) -> Verdict
 }
 
 // Checks 11: the tab reaches no deeper than the body's axis.
+#[tactic(auto, unfolding(crate::specs::Fins::depth_check))]
 fn check_depth(tab: Option<FinTab>, body_radius_m: f64) -> Verdict
     ensures { result ≡ depth_check tab body_radius_m }
 {
