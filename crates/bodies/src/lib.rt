@@ -328,6 +328,7 @@ impl Body {
 
 // Returns the body of a mass at a centre whose tensor about the origin is `about_origin`: about the centre c that is I
 // − m (|c|² E − c cᵀ).
+#[tactic(auto, unfolding(crate::specs::Bodies::of_origin_tensor))]
 pub fn of_origin_tensor(mass_kg: f64, centre_m: Vector, about_origin: Tensor) -> Body
     ensures { result ≡ of_origin_tensor mass_kg centre_m about_origin }
 {

@@ -1,6 +1,6 @@
--- The steps of the long division: the divisor widened, digits of the quotient, and its rounding. Assumes nothing.
+-- The steps of the long division: the divisor widened, and digits of the quotient. Assumes nothing.
 use mathlib.Core.Path.{◌≡◌, refl, sym, ap, ◌∙◌}
-use Prim.Native.Nat.{ℕ, suc, ◌+◌, ◌-◌, ◌*◌, ◌/◌, ◌%◌, ◌^◌, ◌≤◌, ◌<◌, compare, Ordering}
+use Prim.Native.Nat.{ℕ, suc, ◌+◌, ◌-◌, ◌*◌, ◌/◌, ◌%◌, ◌^◌, ◌≤◌, ◌<◌}
 use native.Mathlib.Nat.{mul_assoc, mul_comm, mul_right_comm, mul-one, mul-pos, mul-le-mul_right, mul-le-mul_left, mul-lt-mul_of_pos_right}
 use native.Mathlib.Nat.{lt_of_mul-lt-mul_right, add-mul, le-div_iff_mul-le, div-lt_iff_lt-mul, lt_of_not-le, not-le_of_lt, lt_of_lt_of_le}
 use native.Mathlib.Nat.{lt_of_le_of_lt, le_trans, le_of_eq, div-add-mod', div-le_self, mod-lt, mod-eq_of_lt}
@@ -8,8 +8,6 @@ use native.Mathlib.Omega.{arith}
 use lib.Dec.{leb→le}
 use lib.Count.{count_leading_zeros, leading_top}
 use lib.Pow.{pow-add, pow_pos, pow_mono, shl_lt}
-use lib.Ieee.{nearest}
-use Rattle.floats.proofs.Nearest.{Cmp, cmp}
 use Rattle.floats.proofs.Lifted.{Lifted, lifted}
 use Rattle.decimals.specs.Parts.{WidenedTo, MoreDigits, DividedTo}
 
@@ -175,29 +173,3 @@ module _ (n e : ℕ) (E : 0 < e) (large : 2 ^ 53 ≤ n) (most : e ≤ 2 ^ 42) (f
           most = below q' (2 ^ 53) e r' E (lt_of_le_of_lt (le_of_eq (sym is)) high);
           turns = omega arith;
         }
-
--- ---- rounding
-
-pub rounds_down : (q a b : ℕ) → a < b → q ≡ nearest q (compare a b)
-rounds_down q a b h = go (compare a b) (cmp a b)
-  where
-    go : (o : Ordering) → Cmp o a b → q ≡ nearest q o
-    go Ordering.lt c = refl
-    go Ordering.eq c = absurd (let y : ⊥ = omega arith in y)
-    go Ordering.gt c = absurd (let y : ⊥ = omega arith in y)
-
-pub rounds_up : (q a b : ℕ) → b < a → q + 1 ≡ nearest q (compare a b)
-rounds_up q a b h = go (compare a b) (cmp a b)
-  where
-    go : (o : Ordering) → Cmp o a b → q + 1 ≡ nearest q o
-    go Ordering.lt c = absurd (let y : ⊥ = omega arith in y)
-    go Ordering.eq c = absurd (let y : ⊥ = omega arith in y)
-    go Ordering.gt c = omega arith
-
-pub rounds_even : (q a b : ℕ) → a ≤ b → b ≤ a → q + q % 2 ≡ nearest q (compare a b)
-rounds_even q a b h g = go (compare a b) (cmp a b)
-  where
-    go : (o : Ordering) → Cmp o a b → q + q % 2 ≡ nearest q o
-    go Ordering.lt c = absurd (let y : ⊥ = omega arith in y)
-    go Ordering.eq c = refl
-    go Ordering.gt c = absurd (let y : ⊥ = omega arith in y)

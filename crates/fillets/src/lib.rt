@@ -47,6 +47,7 @@ pub fn figures_of(fillet: Fillet) -> [f64; FILLET_FIGURES]
 
 // Returns the fillet of a number, 0 for none or else its density's, and of these figures.
 // Both are needed, and a TryFrom takes one value.
+#[tactic(auto, unfolding(crate::specs::Numbered::fillet_of))]
 pub fn fillet_of(number: usize, figures: [f64; FILLET_FIGURES]) -> Option<Fillet>
     ensures { result ≡ fillet_of number figures }
 {
@@ -97,6 +98,7 @@ fn angle_series(z: f64) -> f64
 }
 
 // Returns the angle of (c, r) from the first axis, for positive r and c (document 02, Paper 6).
+#[tactic(auto, unfolding(crate::specs::Angles::angle_of))]
 fn angle(r: f64, c: f64) -> f64
     ensures { result ≡ angle_of r c }
 {
@@ -125,6 +127,7 @@ fn span_less_sine_series(x: f64) -> f64
 }
 
 // Returns x − sin x, by its series where the difference would cancel.
+#[tactic(auto, unfolding(crate::specs::FilletSections::span_less_sine_of))]
 fn span_less_sine(x: f64) -> f64
     ensures { result ≡ span_less_sine_of x }
 {
@@ -163,6 +166,7 @@ fn sector_with(x0: f64, y0: f64, rho: f64, span: f64, middle: f64) -> AreaMoment
 
 // Returns the area of a circular sector about (x0, y0), of radius `rho`, from one angle to another, and its moments
 // about the origin.
+#[tactic(auto, unfolding(crate::specs::FilletSections::sector_of))]
 fn sector(x0: f64, y0: f64, rho: f64, from: f64, to: f64) -> AreaMoments
     ensures { result ≡ sector_of x0 y0 rho from to }
 {
@@ -194,6 +198,7 @@ fn less(a: AreaMoments, b: AreaMoments) -> AreaMoments
 }
 
 // Returns one fillet's section on one side of a fin, with x outward along the fin, about the body's axis.
+#[tactic(auto, unfolding(crate::specs::FilletSections::fillet_section_of))]
 fn fillet_section(body_radius_m: f64, radius_m: f64) -> AreaMoments
     ensures { result ≡ fillet_section_of body_radius_m radius_m }
 {
@@ -208,6 +213,7 @@ fn fillet_section(body_radius_m: f64, radius_m: f64) -> AreaMoments
 
 // Tells whether there is no fillet: its radius is not above 0, the body's is 0, or it is thinner than a millionth of
 // the body's.
+#[tactic(auto, unfolding(crate::specs::Fillets::is_none))]
 fn is_none(radius_m: f64, body_radius_m: f64) -> bool
     ensures { result ≡ is_none radius_m body_radius_m }
 {
@@ -215,6 +221,7 @@ fn is_none(radius_m: f64, body_radius_m: f64) -> bool
 }
 
 // Tells whether a section has an area above 0 and finite moments.
+#[tactic(auto, unfolding(crate::specs::Fillets::is_sound))]
 fn is_sound(s: AreaMoments) -> bool
     ensures { result ≡ is_sound s }
 {
@@ -237,6 +244,7 @@ pub fn check_glue(fillet: Fillet) -> Verdict
 
 // Checks a fillet for 22: it is no more than a thousand times as wide as the body, and its section is positive and
 // finite, whether its density is zero or not.
+#[tactic(auto, unfolding(crate::specs::Fillets::ratio_check))]
 pub fn check_ratio(radius_m: f64, body_radius_m: f64) -> Verdict
     ensures { result ≡ ratio_check radius_m body_radius_m }
 {
@@ -261,6 +269,7 @@ fn about_origin(kg_m3: f64, s: AreaMoments, l: f64) -> Tensor
 }
 
 // Returns the body of both fillets, prisms of one section along the root chord l.
+#[tactic(auto, unfolding(crate::specs::Fillets::pair_of))]
 fn pair(kg_m3: f64, s: AreaMoments, l: f64) -> Body
     ensures { result ≡ pair_of kg_m3 s l }
 {
@@ -278,6 +287,7 @@ fn pair(kg_m3: f64, s: AreaMoments, l: f64) -> Body
 
 // Returns the body of the two fillets along one fin's root, at roll angle 0 and no cant, or the empty body where there
 // are none. Only bulk is taken.
+#[tactic(auto, unfolding(crate::specs::Fillets::fillets_of))]
 pub fn fillets(fillet: Fillet, body_radius_m: f64, root_chord_m: f64) -> Body
     ensures { result ≡ fillets_of fillet body_radius_m root_chord_m }
 {

@@ -42,6 +42,7 @@ pub struct Integrand {
 }
 
 // Returns root chord plus span, in metres.
+#[tactic(auto, unfolding(crate::specs::Integrands::scale_of))]
 pub fn scale_m(planform: Planform, points: &[f64]) -> f64
     ensures { result ≡ scale_of planform points.now }
 {
@@ -61,6 +62,7 @@ pub fn area_integrand(planform: Planform, points: &[f64]) -> Integrand
 
 // Returns the integrand of a plate's volume integrals, on a body of the radius given; lengths in metres. The caller
 // works the span once a strip, as an outline's takes a pass over its points.
+#[tactic(auto, unfolding(crate::specs::Integrands::scale_of))]
 pub fn plate_integrand(
     planform: Planform,
     points: &[f64],
@@ -109,6 +111,7 @@ pub fn chords_at(integrand: Integrand, points: &[f64], edges: &[u8], h: f64) -> 
 
 // Returns the seven values at the height h over the chords found there. One chord, as most heights have, needs no list
 // of ends.
+#[tactic(auto, unfolding(crate::specs::Integrands::sums_from, chords::specs::Chords::paired))]
 pub fn values_over(
     found: Chords,
     kind: Kind,

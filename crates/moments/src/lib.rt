@@ -56,6 +56,7 @@ fn entry_fits(x: f64) -> bool
 }
 
 // Returns the eigenvalues of a tensor, ascending.
+#[tactic(auto, unfolding(crate::specs::Moments::eigenvalues_of))]
 pub fn eigenvalues(tensor: Tensor) -> [f64; 3]
     ensures { result ≡ eigenvalues_of tensor }
 {
@@ -85,6 +86,7 @@ fn off_diagonal(matrix: Matrix) -> f64
     floats::abs(a[3]) + floats::abs(a[6]) + floats::abs(a[7])
 }
 
+#[tactic(auto, unfolding(crate::specs::Moments::sweep))]
 fn sweep_once(matrix: Matrix) -> Matrix
     ensures { result ≡ sweep matrix }
 {
@@ -92,6 +94,7 @@ fn sweep_once(matrix: Matrix) -> Matrix
 }
 
 // Returns Jᵀ A J for the plane (p, q), or the matrix as it is where the entry of the plane is 0.
+#[tactic(auto, unfolding(crate::specs::Moments::rotate))]
 fn rotate_plane(matrix: Matrix, p: usize, q: usize) -> Matrix
     requires { (p < 3) × (q < 3) }
     ensures { result ≡ rotate p q matrix }
@@ -106,6 +109,7 @@ fn rotate_plane(matrix: Matrix, p: usize, q: usize) -> Matrix
 }
 
 // Returns A J: it turns, in each row, the numbers in columns p and q.
+#[tactic(auto, unfolding(crate::specs::Moments::turn_columns))]
 fn turn_columns(matrix: Matrix, p: usize, q: usize, turn: Rotation) -> Matrix
     requires { (p < 3) × (q < 3) }
     ensures { result ≡ turn_columns turn p q matrix }
@@ -116,6 +120,7 @@ fn turn_columns(matrix: Matrix, p: usize, q: usize, turn: Rotation) -> Matrix
 }
 
 // Returns Jᵀ A: it turns, in each column, the numbers in rows p and q.
+#[tactic(auto, unfolding(crate::specs::Moments::turn_rows))]
 fn turn_rows(matrix: Matrix, p: usize, q: usize, turn: Rotation) -> Matrix
     requires { (p < 3) × (q < 3) }
     ensures { result ≡ turn_rows turn p q matrix }
@@ -126,6 +131,7 @@ fn turn_rows(matrix: Matrix, p: usize, q: usize, turn: Rotation) -> Matrix
 }
 
 // Returns the matrix where the numbers x at i and y at j have become c x − s y and s x + c y.
+#[tactic(auto, unfolding(crate::specs::Moments::turn_pair))]
 fn turn_pair(matrix: Matrix, i: usize, j: usize, turn: Rotation) -> Matrix
     requires { (i < 9) × (j < 9) }
     ensures { result ≡ turn_pair turn i j matrix }
@@ -140,6 +146,7 @@ fn turn_pair(matrix: Matrix, i: usize, j: usize, turn: Rotation) -> Matrix
 }
 
 // Returns the rotation for the entries app, apq, aqq of a plane.
+#[tactic(auto, unfolding(crate::specs::Moments::rotation_of))]
 fn symmetric_schur(app: f64, apq: f64, aqq: f64) -> Rotation
     ensures { result ≡ rotation_of app apq aqq }
 {
@@ -164,6 +171,7 @@ fn tangent(tau: f64) -> f64
 
 // Returns three numbers, ascending, by insertion. Of two zeros, whose order document 01 leaves free, the first given
 // stays first.
+#[tactic(auto, unfolding(crate::specs::Moments::insert_moment, crate::specs::Moments::insert_all))]
 fn sort(x: f64, y: f64, z: f64) -> [f64; 3]
     ensures { result ≡ ascending (x ∷ y ∷ z ∷ []) }
 {
@@ -173,6 +181,7 @@ fn sort(x: f64, y: f64, z: f64) -> [f64; 3]
     insert_third(x, y, z)
 }
 
+#[tactic(auto, unfolding(crate::specs::Moments::insert_moment))]
 fn insert_third(x: f64, y: f64, z: f64) -> [f64; 3]
     ensures { result ≡ insert_moment z (x ∷ y ∷ []) }
 {

@@ -4,7 +4,7 @@ use mathlib.Core.List.{List, [], ◌∷◌, ◌++◌, append-nil}
 use Prim.Native.Nat.{ℕ, zero, suc, ◌+◌, ◌*◌, ◌-◌, ◌≤◌, ◌<◌}
 use native.Mathlib.Nat.{not-suc-le-zero, le_of_suc-le-suc}
 use native.Mathlib.Omega.{arith}
-use borrow.Rule.Slice.PartMut.{put_mid, Post-is}
+use borrow.Rule.Slice.PartMut.{put_mid}
 use lib.ListN.{length, take, drop, get_or, set, drop_of_length-le, length-append, length-drop, length-set, take-append-drop}
 use lib.Seq.{drop-drop, drop-cons, length-take-le}
 use lib.Ieee.{Float, nan}
@@ -25,9 +25,6 @@ seven_are (a ∷ b ∷ c ∷ d ∷ e ∷ f ∷ []) h = absurd (omega arith)
 seven_are (a ∷ b ∷ c ∷ d ∷ e ∷ f ∷ g ∷ []) h = refl
 seven_are (a ∷ b ∷ c ∷ d ∷ e ∷ f ∷ g ∷ i ∷ l) h = absurd (omega arith)
 
-pub seven_copied : (l v : List Float) → length l ≡ 7 → l ≡ v → l ≡ tabulate 7 (at v)
-seven_copied l v h e = seven_are l h ∙ ap (λ (x : List Float). tabulate 7 (at x)) e
-
 -- two numbers, seven and seven over sixteen
 pub sevens_stored : (s v e : List Float) (p : Piece) → length s ≡ piece_numbers → v ≡ tabulate 7 (at p.value)
     → e ≡ tabulate 7 (at p.error) → put_mid 9 7 (put_mid 2 7 (set (set s 0 p.start) 1 p.end) v) e ≡ numbers_of p
@@ -46,14 +43,6 @@ seven_stored_length (x ∷ y ∷ rest) v a b f n e = rw e (simp length-drop (ome
 
 pub part_size : (i : ℕ) → i * piece_numbers + piece_numbers - i * piece_numbers ≡ piece_numbers
 part_size i = omega arith
-
--- a part that comes back as a piece's numbers
-pub put_back : (s l : List Float) (i : ℕ) (p : Piece) → l ≡ numbers_of p
-    → put_mid (i * piece_numbers) (i * piece_numbers + piece_numbers - i * piece_numbers) s l ≡ put_at s i p
-put_back s l i p e =
-    let h : i * piece_numbers ≤ i * piece_numbers + piece_numbers = omega arith in
-    ap₂ (λ (x y : List Float). take (i * piece_numbers) s ++ (x ++ y)) e
-    (Post-is (i * piece_numbers) (i * piece_numbers + piece_numbers) s h)
 
 -- the pieces from place i on
 pub pieces_step : (n i : ℕ) (s : List Float) → i < n

@@ -56,6 +56,7 @@ fn are_opposite(d: f64, e: f64) -> bool
     ((0.0 < d) & (e < 0.0)) | ((d < 0.0) & (0.0 < e))
 }
 
+#[tactic(auto, unfolding(crate::specs::Segments::is_in_box))]
 fn is_in_box(segment: Segment, c: Point) -> bool
     ensures { result ≡ is_in_box segment c }
 {
@@ -74,6 +75,7 @@ fn lies_on(d: f64, segment: Segment, c: Point) -> bool
 }
 
 // Tells whether two closed segments share a point.
+#[tactic(auto, unfolding(crate::specs::Segments::segments_touch))]
 pub fn segments_touch(pq: Segment, rs: Segment) -> bool
     ensures { result ≡ segments_touch pq rs }
 {

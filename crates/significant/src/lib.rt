@@ -203,6 +203,7 @@ fn put_three(out: &mut [u8], at: usize, a: &[u8], b: &[u8], c: &[u8]) -> usize
 }
 
 // Appends digits with a point after the first i.
+#[tactic(auto, unfolding(tokens::specs::Text::text, tokens::specs::Text::codes))]
 fn put_pointed(out: &mut [u8], at: usize, ds: &[u8], i: usize) -> usize
     requires { (i ≤ length ds.now) × (at + length ds.now + 1 ≤ length out.old) }
     ensures { Appended out.old at (pointed ds.now i) out.new result }
@@ -211,6 +212,7 @@ fn put_pointed(out: &mut [u8], at: usize, ds: &[u8], i: usize) -> usize
 }
 
 // Appends 0, a point, z zeros and digits.
+#[tactic(auto, unfolding(tokens::specs::Text::text, tokens::specs::Text::codes))]
 fn put_fraction(out: &mut [u8], at: usize, ds: &[u8], z: usize) -> usize
     requires { (z ≤ 3) × (at + length ds.now + 5 ≤ length out.old) }
     ensures { Appended out.old at (fraction ds.now z) out.new result }
@@ -281,6 +283,7 @@ fn put_magnitude(out: &mut [u8], at: usize, x: f64, n: usize, scale: usize, powe
     put_written(out, at, &ds[..k], n + s.place + scale, power)
 }
 
+#[tactic(auto, unfolding(tokens::specs::Text::text, tokens::specs::Text::codes))]
 fn put_sign(out: &mut [u8], at: usize, x: f64) -> usize
     requires { at + 1 ≤ length out.old }
     ensures { Appended out.old at (sign_text x) out.new result }
@@ -305,6 +308,7 @@ fn put_signed(out: &mut [u8], at: usize, x: f64, n: usize, scale: usize, power: 
 
 // Appends x * 10^scale to the `at` bytes at the start of out, to n significant digits, with an exponent where `power`
 // asks for it, else only where that is shorter, and returns how many bytes there are then.
+#[tactic(auto, unfolding(tokens::specs::Text::text, tokens::specs::Text::codes))]
 pub fn put_decimal(out: &mut [u8], at: usize, x: f64, n: usize, scale: usize, power: bool) -> usize
     requires { (1 ≤ n) × (n ≤ 16) × (scale ≤ 16) × (at + 44 ≤ length out.old) }
     ensures { Appended out.old at (decimal_text n scale power x) out.new result }

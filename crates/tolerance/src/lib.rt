@@ -27,6 +27,7 @@ pub struct Sums {
     pub error: [f64; 7],
 }
 
+#[tactic(auto, unfolding(crate::specs::Steps::with_piece))]
 fn add_piece(sums: Sums, p: Piece) -> Sums
     ensures { result ≡ with_piece sums p }
 {
@@ -74,6 +75,7 @@ pub fn bounds(total: [f64; 7]) -> [f64; 7]
     ]
 }
 
+#[tactic(auto, unfolding(floats::specs::Operations::every))]
 pub fn all_within(e: [f64; 7], b: [f64; 7]) -> bool
     ensures { result ≡ every 7 (λ k. le (at e k) (at b k)) }
 {
@@ -117,6 +119,7 @@ struct Highest {
 }
 
 // Returns the higher number and its place, on equal numbers the later place. A NaN counts as the highest.
+#[tactic(auto, unfolding(crate::specs::Steps::higher_of))]
 fn higher(highest: Highest, number: f64, place: usize) -> Highest
     ensures { result ≡ higher_of highest number place }
 {
@@ -136,6 +139,7 @@ const SMALLEST: f64 = 1e-300;
 const LARGEST: f64 = 1e300;
 
 // Tells whether errors over these bounds stand in the order of the errors.
+#[tactic(auto, unfolding(crate::specs::Steps::keeps_order, floats::specs::Operations::every))]
 fn keep_order(b: [f64; 7]) -> bool
     ensures { result ≡ keeps_order b }
 {
@@ -172,6 +176,7 @@ struct Extremes {
 
 // Returns what is seen with one piece more, before those seen. Where none of its errors is above the largest seen,
 // neither is its score, and nothing is divided.
+#[tactic(auto, unfolding(crate::specs::Steps::seen_with))]
 fn seen_with(seen: Extremes, p: Piece, b: [f64; 7], ordered: bool, place: usize) -> Extremes
     ensures { result ≡ seen_with seen p b ordered place }
 {

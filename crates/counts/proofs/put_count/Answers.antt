@@ -8,11 +8,6 @@ use Rattle.texts.specs.Appended.{Appended}
 use Rattle.counts.proofs.Printing.{at_most_twenty, printed}
 use Rattle.counts.proofs.put_count.Goals as goal
 
-pub put_bytes-requires : goal.put_bytes-requires
-put_bytes-requires c =
-    let k = at_most_twenty c.args.count c.decimal-k.result (omega arith) c.decimal-k.ensures.len in
-    simp length-take (omega arith)
-
 pub returns : goal.returns
 returns c =
     subst (λ (t : List ℕ). Appended c.args.out.now c.args.n t c.put_bytes.new.out c.put_bytes.result)

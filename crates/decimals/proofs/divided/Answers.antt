@@ -8,9 +8,6 @@ use Rattle.decimals.proofs.divided.Goals as goal
 pub overflow_sub-places : goal.overflow_sub-places
 overflow_sub-places c = let a = c.args in let p = c.requires in (lift a.n a.e p.1 p.0 p.2 p.3).0
 
-pub overflow_cast-places : goal.overflow_cast-places
-overflow_cast-places c = let a = c.args in let p = c.requires in omega (arith, few_places a.n a.e p.1 p.0 p.2 p.3)
-
 pub more_digits-v-requires : goal.more_digits-v-requires
 more_digits-v-requires c =
     let a = c.args in

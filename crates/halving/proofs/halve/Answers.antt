@@ -11,13 +11,6 @@ use Rattle.quadrature.proofs.Heights.{fifteen}
 use Rattle.halving.proofs.Halvings.{halves_are, halves_counted}
 use Rattle.halving.proofs.halve.Goals as goal
 
-pub write-requires : goal.write-requires
-write-requires c = omega (arith, c.requires)
-
-pub write-requires-2 : goal.write-requires-2
-write-requires-2 c =
-    omega (arith, c.write.auto.scratch, c.requires)
-
 pub overflow_add-result : goal.overflow_add-result
 overflow_add-result c =
     let l = ap (λ (x : Measurement). x.samples) c.rule-left.ensures ∙ fifteen _ _ in

@@ -6,18 +6,6 @@ use Rattle.pieces.specs.Stored.{read_at}
 use Rattle.halving.proofs.Repeats.{begin, turn_ended, room, halves_thirty, turn_goes_on}
 use Rattle.halving.proofs.repeat.Goals as goal
 
-pub loop-ending-init : goal.loop-ending-init
-loop-ending-init c =
-    begin _ _ _ _ c.requires.0 c.requires.3
-
-pub judge-judged-requires : goal.judge-judged-requires
-judge-judged-requires c =
-    omega (arith, c.loop-ending.invariant, c.requires)
-
-pub shape_of-scratch-in-Ended : goal.shape_of-scratch-in-Ended
-shape_of-scratch-in-Ended c =
-    c.loop-ending.invariant.long
-
 pub returns-in-Ended : goal.returns-in-Ended
 returns-in-Ended c =
     rw c.answer.ensures
@@ -39,12 +27,6 @@ overflow_add-samples c =
       c.loop-ending.invariant.high,
       c.requires.1,
     )
-
-pub overflow_add-n : goal.overflow_add-n
-overflow_add-n c =
-    let r : (c.loop-ending.n < c.args.limit) × (c.in-Halve.place < c.loop-ending.n) =
-    room _ _ _ _ _ _ _ c.loop-ending.invariant c.requires.2 _ c.judge-judged.ensures _ c.in-Halve.is in
-    omega (arith, r, c.requires.1)
 
 pub loop-ending-smaller : goal.loop-ending-smaller
 loop-ending-smaller c =

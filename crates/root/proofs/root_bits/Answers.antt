@@ -7,13 +7,6 @@ use Rattle.root.proofs.Places.{bounds, digits}
 use Rattle.root.proofs.Patterns.{root_written}
 use Rattle.root.proofs.root_bits.Goals as goal
 
-pub overflow_mul-w : goal.overflow_mul-w
-overflow_mul-w c = omega (arith, (bounds c.scale-x.ensures.0).1)
-
-pub nearest_root-requires : goal.nearest_root-requires
-nearest_root-requires c = let b = bounds c.scale-x.ensures.0 in
-    (b.0, omega (arith, b.1), c.guess.ensures.0, c.guess.ensures.1)
-
 pub overflow_add-result : goal.overflow_add-result
 overflow_add-result c = let s = c.scale-x.ensures in omega (arith, (digits s.0).most, c.nearest_root.ensures, s.1)
 

@@ -4,6 +4,3 @@ use Rattle.tolerance.proofs.larger.Goals as goal
 
 pub returns-then-score-ratio : goal.returns-then-score-ratio
 returns-then-score-ratio c = larger_above _ _ c.requires c.if-score-ratio.true
-
-pub returns-else-score-ratio : goal.returns-else-score-ratio
-returns-else-score-ratio c = larger_not _ _ c.requires c.if-score-ratio.false

@@ -7,12 +7,6 @@ use Rattle.pieces.proofs.Storage.{pieces_step}
 use Rattle.tolerance.proofs.Added.{sums_are}
 use Rattle.tolerance.proofs.total.Goals as goal
 
-pub loop-i-init : goal.loop-i-init
-loop-i-init c = rw sub-zero
-
-pub read-requires : goal.read-requires
-read-requires c = omega arith
-
 pub loop-i-preserved : goal.loop-i-preserved
 loop-i-preserved c =
     let inside : c.loop-i.i < c.args.n = omega arith in

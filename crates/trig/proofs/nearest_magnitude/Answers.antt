@@ -7,9 +7,6 @@ use lib.Pow.{shl_exact, shr_le}
 use Rattle.trig.proofs.Bits.{halved, shifted}
 use Rattle.trig.proofs.nearest_magnitude.Goals as goal
 
-pub overflow_add-result : goal.overflow_add-result
-overflow_add-result c = omega (arith, shr_le c.args.digits (1074 - c.args.exponent))
-
 pub returns-then-exponent-lt1075 : goal.returns-then-exponent-lt1075
 returns-then-exponent-lt1075 c = sym (halved c.args.exponent c.args.digits (omega arith) (omega arith))
 

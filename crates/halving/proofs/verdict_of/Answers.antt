@@ -1,8 +1,0 @@
--- `halving::verdict_of` meets its contract: each arm knows its case. Assumes nothing.
-use Rattle.halving.proofs.verdict_of.Goals as goal
-
-pub returns-in-Ok : goal.returns-in-Ok
-returns-in-Ok c = rw c.in-Ok.is
-
-pub returns-in-Err : goal.returns-in-Err
-returns-in-Err c = rw c.in-Err.is
