@@ -4,10 +4,10 @@
 // ANSWER_BYTES.
 #![tactic(auto)]
 
-ghost use Rattle.std.specs.Prelude.{◌+◌, ◌≤◌, length};
+ghost use Rattle.std.specs.Prelude.{◌≡◌, ◌+◌, ◌≤◌, length};
 ghost use Rattle.texts.specs.Appended.{Appended};
 ghost use Rattle.answers.specs.Filled.{filled, room};
-ghost use Rattle.answers.specs.Answers.{AnswerFits, text_of};
+ghost use Rattle.answers.specs.Answers.{AnswerFits, template, text_of};
 ghost use Rattle.answers.specs.Places.{HasRoom, PutPiece};
 
 // How many bytes an answer may have.
@@ -62,7 +62,8 @@ pub struct Reply {
     pub counts: [u64; 4],
 }
 
-// Where printing stands: how many bytes are written, and how many figures and counts have been used.
+// Where printing stands: how many bytes are written, and how many figures and counts have been used. `blocks` fills in
+// its own texts: one function for both would need a trait with laws of marks, room and pieces, longer than the two.
 #[derive(Clone, Copy)]
 struct Place {
     n: usize,
@@ -135,32 +136,37 @@ pub fn put_filled(
     p.n
 }
 
+// Returns the template of an answer of this shape.
+#[tactic(auto, unfolding(tokens::specs::Text::text, tokens::specs::Text::codes))]
+fn template(shape: Shape) -> &'static [u8]
+    ensures { result.now ≡ template shape }
+{
+    match shape {
+        Shape::Figures => &FIGURES,
+        Shape::Area => &AREA,
+        Shape::Joined => &JOINED,
+        Shape::Ring => &RING,
+        Shape::Body => &BODY,
+        Shape::Closing => b"(closing F)",
+        Shape::Inside => b"(inside N)",
+        Shape::Edge => b"(edge N)",
+        Shape::Outside => b"(outside N)",
+        Shape::Moments => b"(moments F F F)",
+        Shape::Sound => b"(sound)",
+        Shape::Taken => b"(taken)",
+        Shape::Idle => b"(idle)",
+        Shape::More => b"(more N)",
+        Shape::Done => &DONE,
+        Shape::DoneRefused => b"(done N (refused N))",
+        Shape::Progress => &PROGRESS,
+        Shape::Refused => b"(refused N)",
+    }
+}
+
 // Appends an answer to the n bytes at the start of out, and returns how many there are then.
 pub fn put_reply(out: &mut [u8], n: usize, reply: Reply) -> usize
     requires { AnswerFits out.old n }
     ensures { Appended out.old n (text_of reply) out.new result }
 {
-    let shape = reply.shape;
-    let figures = reply.figures;
-    let counts = reply.counts;
-    match shape {
-        Shape::Figures => put_filled(out, n, &FIGURES, &figures, &counts),
-        Shape::Area => put_filled(out, n, &AREA, &figures, &counts),
-        Shape::Joined => put_filled(out, n, &JOINED, &figures, &counts),
-        Shape::Ring => put_filled(out, n, &RING, &figures, &counts),
-        Shape::Body => put_filled(out, n, &BODY, &figures, &counts),
-        Shape::Closing => put_filled(out, n, b"(closing F)", &figures, &counts),
-        Shape::Inside => put_filled(out, n, b"(inside N)", &figures, &counts),
-        Shape::Edge => put_filled(out, n, b"(edge N)", &figures, &counts),
-        Shape::Outside => put_filled(out, n, b"(outside N)", &figures, &counts),
-        Shape::Moments => put_filled(out, n, b"(moments F F F)", &figures, &counts),
-        Shape::Sound => put_filled(out, n, b"(sound)", &figures, &counts),
-        Shape::Taken => put_filled(out, n, b"(taken)", &figures, &counts),
-        Shape::Idle => put_filled(out, n, b"(idle)", &figures, &counts),
-        Shape::More => put_filled(out, n, b"(more N)", &figures, &counts),
-        Shape::Done => put_filled(out, n, &DONE, &figures, &counts),
-        Shape::DoneRefused => put_filled(out, n, b"(done N (refused N))", &figures, &counts),
-        Shape::Progress => put_filled(out, n, &PROGRESS, &figures, &counts),
-        Shape::Refused => put_filled(out, n, b"(refused N)", &figures, &counts),
-    }
+    put_filled(out, n, template(reply.shape), &reply.figures, &reply.counts)
 }

@@ -4,7 +4,7 @@ use mathlib.Core.Bool.{Bool, true, false, cond}
 use mathlib.Core.Path.{◌≡◌, refl, sym, ap, subst, ◌∙◌}
 use Prim.Native.Nat.{ℕ, ◌+◌, ◌-◌, ◌<◌, ◌≤◌}
 use native.Mathlib.Omega.{arith}
-use borrow.Author.Tests.{lt-ltb, le-ltb, ltb-true, ltb-false, eq-eqb, ne_eqb}
+use borrow.Author.Tests.{not-true, lt-ltb, le-ltb, ltb-true, ltb-false, eq-eqb, ne_eqb}
 use lib.Dec.{ltb, eqb}
 use lib.ListN.{length, take, drop, set, get_or, drop_of_length-le, length-take, length-drop}
 use lib.Ieee.{Float}
@@ -14,8 +14,10 @@ use Rattle.counts.specs.Counts.{count_of, capped_count}
 use Rattle.texts.specs.Appended.{Appended}
 use Rattle.texts.proofs.Appending.{nothing, byte_put}
 use Rattle.tokens.specs.Tokens.{ends_word}
-use Rattle.tokens.specs.Found.{part}
+use Rattle.tokens.specs.Found.{part, IsWordEnd}
+use Rattle.tokens.specs.Places.{run, in_word}
 use Rattle.tokens.proofs.Bytes.{cons_at, part_longer, part_none}
+use Rattle.tokens.proofs.Places.{along}
 use Rattle.blocks.specs.declared.words.Read.{Read}
 use Rattle.blocks.specs.Words.{by_kind, other_shape, word_shape, word_figures, word_counts, over_words, shape_in, figures_in, counts_in}
 use Rattle.blocks.specs.Steps.{Grown, IsEnd, end_bytes, PutsFigure, PutsCount, PutsPlain, PutsOther, PutsWord, IsRead}
@@ -42,6 +44,17 @@ module _ {A : Type 0} (f : List ℕ → List A) (g : ℕ → List A) (l : List �
       → over_words f g [] (drop i l) ≡ over_words f g (part l i (j + 1)) (drop (j + 1) l)
   grows i j a h e t = t ∙ byte (part l i j) j false h e
       ∙ ap (λ (w : List ℕ). over_words f g w (drop (j + 1) l)) (sym (part_longer l i j a h))
+
+  abbrev Passed : ℕ → ℕ → Type 0
+  Passed i j = (i ≤ j) × (over_words f g [] (drop i l) ≡ over_words f g (part l i j) (drop j l))
+
+  -- up to its end a word only grows
+  pub grown : (i to : ℕ) → i ≤ length l → to ≡ i + run in_word (drop i l)
+      → over_words f g [] (drop i l) ≡ over_words f g (part l i to) (drop to l)
+  grown i to h e = rw e (along in_word l (Passed i) step (length l - i) i refl (omega arith, begins i)).1
+    where
+      step : (j : ℕ) → j < length l → in_word (get_or l j 0) ≡ true → Passed i j → Passed i (j + 1)
+      step j b t p = let a = p.0 in (omega (arith, a), grows i j a b (not-true _ t) p.1)
 
   behind : (w : List ℕ) (j : ℕ) → length l ≤ j → over_words f g w (drop j l) ≡ f w
   unfolding over_words
@@ -258,6 +271,18 @@ end_short l to = by (ltb to (length l))
 -- and none at the line's end
 no_end : (l : List ℕ) (to : ℕ) → length l ≤ to → length (end_bytes l to) ≡ 0
 no_end l to h = ap (λ (t : Bool). length (cond t (get_or l to 0 ∷ []) [])) (le-ltb to (length l) h)
+
+-- the end of a word, as a line's tokens have it, is its end as a line's words have it
+pub is_end : (line : List ℕ) (i to : ℕ) → i ≤ length line → IsWordEnd line i to → IsEnd line i to
+is_end line i to h e =
+    record {
+      behind = e.behind;
+      within = e.within;
+      shape = grown word_shape (λ b. b ∷ []) line i to h e.place;
+      figures = grown word_figures (λ b. []) line i to h e.place;
+      counts = grown word_counts (λ b. []) line i to h e.place;
+      stops = e.stops;
+    }
 
 module _ (line : List ℕ) (r w q : Read) (i to : ℕ) (shape shape₁ shape₂ : List ℕ) (figures figures₁ : List Float) (counts counts₁ : List ℕ)
     (v : SoFar line r i shape figures counts) (e : IsEnd line i to)

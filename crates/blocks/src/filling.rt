@@ -15,7 +15,8 @@ use crate::sentences;
 // How many significant digits a figure of a block has.
 const DIGITS: usize = 6;
 
-// Where filling stands: how many bytes are written, and how many figures and counts have been used.
+// Where filling stands: how many bytes are written, and how many figures and counts have been used. `answers` fills in
+// its own templates: one function for both would need a trait with laws of marks, room and pieces, longer than the two.
 #[derive(Clone, Copy)]
 pub(crate) struct Place {
     pub(crate) n: usize,
@@ -27,10 +28,7 @@ pub(crate) struct Place {
 fn is_figure_mark(b: u8) -> bool
     ensures { result ≡ is_figure_mark b }
 {
-    if b == 71 {
-        return true;
-    }
-    b == 70
+    b == 71 || b == 70
 }
 
 // Appends a figure as its mark asks: times a thousand for G (71), which makes kilograms grams and metres millimetres,
@@ -87,7 +85,8 @@ fn put_piece(out: &mut [u8], p: Place, b: u8, figures: &[f64], counts: &[u64]) -
     }
 }
 
-// Appends a text whose only marks are those of figures and counts.
+// Appends a text whose only marks are those of figures and counts. One function for this and `put_card` would need the
+// same trait, for a loop of three lines.
 fn put_plain(out: &mut [u8], n: usize, template: &[u8], figures: &[f64], counts: &[u64]) -> usize
     requires { n + room plain_most template.now ≤ length out.old }
     ensures { Appended out.old n
@@ -199,13 +198,7 @@ fn put_moments(out: &mut [u8], n: usize, figures: &[f64]) -> usize
 fn all_zero(a: f64, b: f64, c: f64) -> bool
     ensures { result ≡ all_zero a b c }
 {
-    if a == 0.0 {
-        if b == 0.0 {
-            return c == 0.0;
-        }
-        return false;
-    }
-    false
+    a == 0.0 && b == 0.0 && c == 0.0
 }
 
 // Appends the tensor's mixed entries, unless all of them are noise beside the diagonal.
@@ -234,13 +227,7 @@ fn put_mixed(out: &mut [u8], n: usize, figures: &[f64]) -> usize
 fn is_body_mark(b: u8) -> bool
     ensures { result ≡ is_body_mark b }
 {
-    if b == 66 {
-        return true;
-    }
-    if b == 67 {
-        return true;
-    }
-    b == 68
+    b == 66 || b == 67 || b == 68
 }
 
 // Appends the part of a body that a mark asks for: the mass for B (66), the moments for C (67), the mixed entries for D

@@ -1,6 +1,6 @@
 // An answer's words: its shape, in which `F` stands for a figure and `N` for a count, and its figures and counts.
 ghost use Rattle.std.specs.Prelude.{◌≡◌, ◌+◌, ◌≤◌, ◌<◌, length};
-ghost use Rattle.blocks.specs.Steps.{IsEnd, end_bytes, PutsFigure, PutsCount, PutsPlain, PutsOther, PutsWord};
+ghost use Rattle.blocks.specs.Steps.{end_bytes, PutsFigure, PutsCount, PutsPlain, PutsOther, PutsWord};
 ghost use Rattle.blocks.specs.Steps.{IsRead};
 
 // How far reading is: how many bytes of the shape, how many figures and how many counts are written.
@@ -9,19 +9,6 @@ pub(crate) struct Read {
     pub(crate) bytes: usize,
     pub(crate) figures: usize,
     pub(crate) counts: usize,
-}
-
-// Returns the place of the first byte from `at` on that ends a word, or the line's length.
-fn word_end(line: &[u8], at: usize) -> usize
-    requires { at ≤ length line.now }
-    ensures { IsEnd line.now at result }
-{
-    for end in at..line.len() {
-        if tokens::ends_word(line[end]) {
-            return end;
-        }
-    }
-    line.len()
 }
 
 // Adds `F` to the shape and x to the figures.
@@ -141,7 +128,7 @@ pub(crate) fn read_answer(
     };
     let mut i: usize = 0;
     while i < line.len() {
-        let to = word_end(line, i);
+        let to = tokens::word_end(line, i);
         let w = put_word(shape, figures, counts, r, &line[i..to]);
         r = put_end(shape, w, line, to);
         i = to + 1;

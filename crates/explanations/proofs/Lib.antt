@@ -1,4 +1,3 @@
-pub mod Places
 pub mod Saving
 pub mod Wanting
 pub mod Ends

@@ -10,7 +10,7 @@ use Rattle.texts.specs.Appended.{Appended}
 use Rattle.tokens.specs.declared.TokenRange.{TokenRange}
 use Rattle.tokens.proofs.Bytes.{cons_at}
 use Rattle.explanations.specs.declared.Fault.{Fault}
-use Rattle.explanations.specs.Places.{token_at}
+use Rattle.tokens.specs.Places.{token_at}
 use Rattle.explanations.specs.Endings.{saves_here, saved, passes, pick_found, fault_from}
 
 -- what stood before an appended text stands there still

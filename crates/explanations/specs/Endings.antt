@@ -6,7 +6,7 @@ use Rattle.tokens.specs.Tokens.{line_bytes}
 use Rattle.tokens.specs.declared.TokenRange.{TokenRange}
 use Rattle.templates.specs.Matching.{cut_at_bars}
 use Rattle.explanations.specs.declared.Fault.{Fault}
-use Rattle.explanations.specs.Places.{token_at}
+use Rattle.tokens.specs.Places.{token_at}
 use Rattle.explanations.specs.Faults.{fault_of}
 
 abbrev pub same_fault : Fault → Fault → Bool

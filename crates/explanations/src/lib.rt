@@ -10,7 +10,7 @@ ghost use Rattle.tokens.specs.Text.{text};
 ghost use Rattle.tokens.specs.Tokens.{line_bytes};
 ghost use Rattle.templates.specs.Matching.{cut_at_bars};
 ghost use Rattle.blocks.specs.Tables.{text_for};
-ghost use Rattle.explanations.specs.Places.{run, in_word, token_from, IsToken, IsPlace};
+ghost use Rattle.explanations.specs.Places.{IsPlace};
 ghost use Rattle.explanations.specs.Faults.{fault_in, fault_of};
 ghost use Rattle.explanations.specs.Endings.{saves_from, saves_with, saves_here, saved, passes, fault_place};
 ghost use Rattle.explanations.specs.Endings.{wanted_word, wanted_of, wanted_text};
@@ -60,48 +60,6 @@ fn fault_of(line: &[u8]) -> Option<Fault>
     let mut counts = [0; ENGINE_COUNTS];
     let reply = lines::reply_line(line, &mut values, &mut scratch, &mut numbers, &mut counts);
     fault_in(reply)
-}
-
-// Returns the first place from `at` on that holds no space.
-fn past_spaces(line: &[u8], at: usize) -> usize
-    requires { at ≤ length line.now }
-    ensures { (result ≡ token_from line.now at) × (result ≤ length line.now) }
-{
-    for i in at..line.len() {
-        if line[i] != 32 {
-            return i;
-        }
-    }
-    line.len()
-}
-
-// Returns the first place from `from` on whose byte ends a word.
-fn word_end(line: &[u8], from: usize) -> usize
-    requires { from ≤ length line.now }
-    ensures { (result ≡ from + run in_word (drop from line.now)) × (result ≤ length line.now) }
-{
-    for i in from..line.len() {
-        if tokens::ends_word(line[i]) {
-            return i;
-        }
-    }
-    line.len()
-}
-
-// Returns the first token from a place on, which is empty at the line's end.
-fn token(line: &[u8], at: usize) -> TokenRange
-    requires { at ≤ length line.now }
-    ensures { IsToken line.now at result }
-{
-    let from = past_spaces(line, at);
-    if line.len() <= from {
-        return TokenRange { from, to: from };
-    }
-    if tokens::ends_word(line[from]) {
-        return TokenRange { from, to: from + 1 };
-    }
-    let to = word_end(line, from);
-    TokenRange { from, to }
 }
 
 // Tells whether a line with the fault `other`, or none, is saved from `fault`: it is a form, and refused for something
@@ -177,7 +135,7 @@ fn find_fault(line: &[u8], trial: &mut [u8], endings: &[u8], fault: Fault) -> To
 {
     let mut at: usize = 0;
     for _turn in 0..LINE_BYTES {
-        let f = token(line, at);
+        let f = tokens::next_token(line, at);
         if !passes(line, trial, endings, fault, f) {
             return f;
         }

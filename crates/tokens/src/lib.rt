@@ -19,13 +19,7 @@ pub struct TokenRange {
 pub fn ends_word(b: u8) -> bool
     ensures { result ≡ ends_word b }
 {
-    if b == 32 {
-        return true;
-    }
-    if b == 40 {
-        return true;
-    }
-    b == 41
+    b == 32 || b == 40 || b == 41
 }
 
 // Returns the first place from `at` on that holds no space, or the line's end.
@@ -42,7 +36,7 @@ fn past_spaces(line: &[u8], at: usize) -> usize
 }
 
 // Returns the first place from `at` on whose byte ends a word, or the line's end.
-fn word_end(line: &[u8], at: usize) -> usize
+pub fn word_end(line: &[u8], at: usize) -> usize
     requires { at ≤ length line.now }
     ensures { IsWordEnd line.now at result }
 {

@@ -9,17 +9,17 @@ pub returns-then-not-passes : goal.returns-then-not-passes
 returns-then-not-passes c =
     record {
       is = sym (c.loop-turn.invariant.2
-          ∙ stops _ _ _ _ _ c.token-f.ensures.is _ (omega arith) (sym c.passes.ensures ∙ not-true _ c.if-not-passes.true-raw));
-      ordered = c.token-f.ensures.ordered;
-      within = c.token-f.ensures.within;
+          ∙ stops _ _ _ _ _ c.next_token-f.ensures.place _ (omega arith) (sym c.passes.ensures ∙ not-true _ c.if-not-passes.true-raw));
+      ordered = c.next_token-f.ensures.ordered;
+      within = c.next_token-f.ensures.within c.loop-turn.invariant.0;
     }
 
 pub loop-turn-preserved : goal.loop-turn-preserved
 loop-turn-preserved c = (
-  c.token-f.ensures.within,
+  c.next_token-f.ensures.within c.loop-turn.invariant.0,
   c.passes.auto.trial ∙ c.loop-turn.invariant.1,
   c.loop-turn.invariant.2
-      ∙ goes_on _ _ _ _ _ c.token-f.ensures.is _ _ (omega arith) (sym c.passes.ensures ∙ not-false _ c.if-not-passes.false-raw),
+      ∙ goes_on _ _ _ _ _ c.next_token-f.ensures.place _ _ (omega arith) (sym c.passes.ensures ∙ not-false _ c.if-not-passes.false-raw),
 )
 
 pub returns : goal.returns

@@ -14,7 +14,7 @@ use Rattle.input_lines.specs.Taking.{Begun}
 use Rattle.inputs.specs.Inputs.{reply_bytes}
 use Rattle.inputs.specs.States.{Place, memory_at, kept_reply, kept_left, SameLengths, TakesInto, Feeds}
 use Rattle.inputs.proofs.Lengths.{grow}
-use Rattle.inputs.proofs.Taking.{none_into, line_more, newline_more, still_lent}
+use Rattle.inputs.proofs.Taking.{none_into, line_more, newline_more}
 use Rattle.inputs.proofs.feed.Goals as goal
 use Rattle.inputs.proofs.feed.Invariants.{RoomAfter, SoFar}
 
@@ -103,34 +103,6 @@ pub loop-taken-init : goal.loop-taken-init
 loop-taken-init c =
     record { into = none_into c.requires.1; some = omega arith; each = λ begun k j l. absurd (not-suc-le-zero l); begins = λ _. refl }
 
-pub keep_line-line-requires : goal.keep_line-line-requires
-keep_line-line-requires c =
-    let l = still_lent c.loop-taken.invariant.into.takes c.requires.0 in
-    (l.bytes, l.within)
-
-pub overflow_add-end : goal.overflow_add-end
-overflow_add-end c =
-    let m = (kept c.loop-taken.invariant c.loop-taken-test.true c.if-out-written-lt-REPLY_BYTES.false
-    c.keep_line-line.ensures c.keep_line-line.auto.buffer).some in
-    omega (arith, m)
-
-pub reply-written-requires : goal.reply-written-requires
-reply-written-requires c =
-    let k = (kept c.loop-taken.invariant c.loop-taken-test.true c.if-out-written-lt-REPLY_BYTES.false
-    c.keep_line-line.ensures c.keep_line-line.auto.buffer) in
-    let r = k.into.room in
-    (still_lent k.into.takes c.requires.0, omega (arith, r, c.if-out-written-lt-REPLY_BYTES.false))
-
-pub overflow_add-taken : goal.overflow_add-taken
-overflow_add-taken c =
-    let m = (kept c.loop-taken.invariant c.loop-taken-test.true c.if-out-written-lt-REPLY_BYTES.false
-    c.keep_line-line.ensures c.keep_line-line.auto.buffer).some in
-    omega (arith, c.if-end-chunk.false, m)
-
-pub loop-taken-smaller : goal.loop-taken-smaller
-loop-taken-smaller c =
-    omega arith
-
 pub loop-taken-preserved : goal.loop-taken-preserved
 loop-taken-preserved c =
     let k = (kept c.loop-taken.invariant c.loop-taken-test.true c.if-out-written-lt-REPLY_BYTES.false
@@ -142,72 +114,7 @@ loop-taken-preserved c =
     refl (record { scratches = reply.auto.scratch; numbers = reply.auto.engine_numbers; counts = reply.auto.engine_counts })
     reply.auto.out reply.ensures.appended reply.ensures.leaves
 
-pub overflow_sub-out : goal.overflow_sub-out
-overflow_sub-out c = c.loop-taken.invariant.into.room
-
-pub shape_of-buffer-then-out-written-lt-REPLY_BYTES : goal.shape_of-buffer-then-out-written-lt-REPLY_BYTES
-shape_of-buffer-then-out-written-lt-REPLY_BYTES c = c.loop-taken.invariant.into.takes.buffers
-
-pub shape_of-scratch-then-out-written-lt-REPLY_BYTES : goal.shape_of-scratch-then-out-written-lt-REPLY_BYTES
-shape_of-scratch-then-out-written-lt-REPLY_BYTES c = c.loop-taken.invariant.into.takes.stays.scratches
-
-pub shape_of-engine_numbers-then-out-written-lt-REPLY_BYTES : goal.shape_of-engine_numbers-then-out-written-lt-REPLY_BYTES
-shape_of-engine_numbers-then-out-written-lt-REPLY_BYTES c = c.loop-taken.invariant.into.takes.stays.numbers
-
-pub shape_of-engine_counts-then-out-written-lt-REPLY_BYTES : goal.shape_of-engine_counts-then-out-written-lt-REPLY_BYTES
-shape_of-engine_counts-then-out-written-lt-REPLY_BYTES c = c.loop-taken.invariant.into.takes.stays.counts
-
-pub shape_of-out-then-out-written-lt-REPLY_BYTES : goal.shape_of-out-then-out-written-lt-REPLY_BYTES
-shape_of-out-then-out-written-lt-REPLY_BYTES c = c.loop-taken.invariant.into.outs
-
-pub returns-then-out-written-lt-REPLY_BYTES : goal.returns-then-out-written-lt-REPLY_BYTES
-returns-then-out-written-lt-REPLY_BYTES c = stops c.loop-taken.invariant c.if-out-written-lt-REPLY_BYTES.true
-
-pub slice_bounds-keep_line-count : goal.slice_bounds-keep_line-count
-slice_bounds-keep_line-count c = c.loop-taken.invariant.some
-
-pub slice_bounds-keep_line-start : goal.slice_bounds-keep_line-start
-slice_bounds-keep_line-start c = c.loop-taken.invariant.some
-
-pub shape_of-buffer-then-end-chunk : goal.shape_of-buffer-then-end-chunk
-shape_of-buffer-then-end-chunk c = (kept c.loop-taken.invariant c.loop-taken-test.true c.if-out-written-lt-REPLY_BYTES.false
-    c.keep_line-line.ensures c.keep_line-line.auto.buffer).into.takes.buffers
-
-pub shape_of-scratch-then-end-chunk : goal.shape_of-scratch-then-end-chunk
-shape_of-scratch-then-end-chunk c = (kept c.loop-taken.invariant c.loop-taken-test.true c.if-out-written-lt-REPLY_BYTES.false
-    c.keep_line-line.ensures c.keep_line-line.auto.buffer).into.takes.stays.scratches
-
-pub shape_of-engine_numbers-then-end-chunk : goal.shape_of-engine_numbers-then-end-chunk
-shape_of-engine_numbers-then-end-chunk c = (kept c.loop-taken.invariant c.loop-taken-test.true c.if-out-written-lt-REPLY_BYTES.false
-    c.keep_line-line.ensures c.keep_line-line.auto.buffer).into.takes.stays.numbers
-
-pub shape_of-engine_counts-then-end-chunk : goal.shape_of-engine_counts-then-end-chunk
-shape_of-engine_counts-then-end-chunk c = (kept c.loop-taken.invariant c.loop-taken-test.true c.if-out-written-lt-REPLY_BYTES.false
-    c.keep_line-line.ensures c.keep_line-line.auto.buffer).into.takes.stays.counts
-
-pub shape_of-out-then-end-chunk : goal.shape_of-out-then-end-chunk
-shape_of-out-then-end-chunk c = (kept c.loop-taken.invariant c.loop-taken-test.true c.if-out-written-lt-REPLY_BYTES.false
-    c.keep_line-line.ensures c.keep_line-line.auto.buffer).into.outs
-
 pub returns-then-end-chunk : goal.returns-then-end-chunk
 returns-then-end-chunk c =
     let e = c.if-end-chunk.true in ends (kept c.loop-taken.invariant c.loop-taken-test.true c.if-out-written-lt-REPLY_BYTES.false
     c.keep_line-line.ensures c.keep_line-line.auto.buffer) (omega arith)
-
-pub shape_of-buffer : goal.shape_of-buffer
-shape_of-buffer c = c.loop-taken.invariant.into.takes.buffers
-
-pub shape_of-scratch : goal.shape_of-scratch
-shape_of-scratch c = c.loop-taken.invariant.into.takes.stays.scratches
-
-pub shape_of-engine_numbers : goal.shape_of-engine_numbers
-shape_of-engine_numbers c = c.loop-taken.invariant.into.takes.stays.numbers
-
-pub shape_of-engine_counts : goal.shape_of-engine_counts
-shape_of-engine_counts c = c.loop-taken.invariant.into.takes.stays.counts
-
-pub shape_of-out : goal.shape_of-out
-shape_of-out c = c.loop-taken.invariant.into.outs
-
-pub returns : goal.returns
-returns c = ends c.loop-taken.invariant c.loop-taken-test.false

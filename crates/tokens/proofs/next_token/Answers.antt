@@ -8,6 +8,7 @@ use lib.ListN.{length, drop, get_or}
 use Rattle.tokens.specs.Tokens.{ends_word, tokens}
 use Rattle.tokens.specs.Found.{part, IsFound, IsWordEnd, IsPastSpaces}
 use Rattle.tokens.proofs.Bytes.{bracket_at, at_end_lem, part_longer, part_none}
+use Rattle.tokens.proofs.Places.{no_token, bracket_place, word_place, past_end}
 use Rattle.tokens.proofs.next_token.Goals as goal
 
 one_byte : (line : List ℕ) (i : ℕ) → i < length line → part line i (i + 1) ≡ get_or line i 0 ∷ []
@@ -21,6 +22,7 @@ module _ (line : List ℕ) (at from : ℕ) where
     behind = omega arith;
     ordered = omega arith;
     within = λ g. g;
+    place = no_token line at at (past_end line at h) h;
   }
 
   module _ (p : IsPastSpaces line at from) where
@@ -32,6 +34,7 @@ module _ (line : List ℕ) (at from : ℕ) where
       behind = p.behind;
       ordered = omega arith;
       within = λ _. p.within;
+      place = no_token line at from p.place h;
     }
 
     bracket : from < length line → ends_word (get_or line from 0) ≡ true → IsFound line at (record { from = from; to = from + 1 })
@@ -44,6 +47,7 @@ module _ (line : List ℕ) (at from : ℕ) where
           behind = b;
           ordered = omega arith;
           within = λ _. omega arith;
+          place = bracket_place line at from p.place h e;
         }
 
     in_word_lem : (to : ℕ) → from < length line → ends_word (get_or line from 0) ≡ false → IsWordEnd line from to
@@ -58,6 +62,7 @@ module _ (line : List ℕ) (at from : ℕ) where
           behind = p.behind;
           ordered = w.behind;
           within = λ _. w.within;
+          place = word_place line at from p.place h to n w.place;
         }
 
 pub returns-then-line-at : goal.returns-then-line-at

@@ -2,7 +2,7 @@
 use mathlib.Core.Path.{◌∙◌}
 use native.Mathlib.Omega.{arith}
 use Rattle.tokens.specs.Found.{part}
-use Rattle.blocks.proofs.Reading.{one_word, all_read, part_length, shape_short}
+use Rattle.blocks.proofs.Reading.{is_end, one_word, all_read, part_length, shape_short}
 use Rattle.blocks.proofs.words.read_answer.Goals as goal
 
 pub put_word-w-requires : goal.put_word-w-requires
@@ -41,7 +41,7 @@ loop-i-preserved c =
     let v = c.loop-i.invariant in (
       one_word c.args.line.now c.loop-i.r c.put_word-w.result c.put_end-r.result c.loop-i.i c.word_end-to.result
           c.loop-i.shape c.put_word-w.new.shape c.put_end-r.new.shape c.loop-i.figures c.put_word-w.new.figures c.loop-i.counts
-          c.put_word-w.new.counts v.0 c.word_end-to.ensures c.put_word-w.ensures c.put_end-r.ensures,
+          c.put_word-w.new.counts v.0 (is_end _ _ _ (omega arith) c.word_end-to.ensures) c.put_word-w.ensures c.put_end-r.ensures,
       c.put_end-r.auto.shape
           ∙ c.put_word-w.auto.shape ∙ v.1,
       c.put_word-w.auto.figures ∙ v.2,
