@@ -34,7 +34,7 @@ pub struct Step {
 #[derive(Clone, Copy)]
 pub struct Turn {
     pub state: State,
-    pub got: isize,
+    pub got: Option<usize>,
     pub read: usize,
     pub handed: usize,
     pub all: bool,
@@ -143,7 +143,7 @@ fn take_turn<T: Answers>(
         (place_in buffer.new result.state taker.new) t result chunk.new }
 {
     let got = reads::read(&mut rt.stdin(), chunk);
-    let n = io::count(got, chunk);
+    let n = got.unwrap_or(0);
     let state = t.state;
     if n == 0 {
         return Turn {
@@ -201,7 +201,7 @@ pub fn run<T: Answers>(taker: &mut T, rt: HostRuntime, buffer: &mut [u8], chunk:
     let state = input_lines::no_line();
     let mut turn = Turn {
         state,
-        got: -1,
+        got: None,
         read: 0,
         handed: 0,
         all: true,

@@ -5,15 +5,9 @@ use mathlib.Core.Path.{◌≡◌, refl, sym}
 use Prim.Native.Nat.{ℕ, zero, suc, ◌+◌, ◌-◌, ◌<◌}
 use native.Mathlib.Omega.{arith}
 use borrow.Author.Tests.{le-leb}
-use lib.IntN.{ℤ, pos, negsuc}
 use lib.Dec.{leb}
-use Rattle.io.specs.Counts.{clamp_len}
-use Rattle.reads.specs.Reads.{Answers, brought, at_end, most_read}
-
--- by `io::count`
-pub counted : (got : ℤ) (n room : ℕ) → Answers room got → n ≡ clamp_len got room → n ≡ brought got
-counted (pos i) n room h c = omega arith
-counted (negsuc i) n room h c = c
+use Rattle.std.specs.Prelude.{Option, Some, None}
+use Rattle.reads.specs.Reads.{brought, at_end, most_read}
 
 pub some_brought : (n : ℕ) (all : Bool) → leb 1 n && all ≡ true → 0 < n
 some_brought zero all e = absurd (true≢false (sym e))
@@ -27,15 +21,15 @@ pub not_all_taken : (n : ℕ) (all : Bool) → leb 1 n && all ≡ false → 0 < 
 not_all_taken zero all e h = absurd (let z : ⊥ = omega arith in z)
 not_all_taken (suc n) all e h = rw (le-leb 1 (suc n) (omega arith)) at e
 
-pub none_at_end : (got : ℤ) → at_end got ≡ true → brought got ≡ 0
-none_at_end (pos zero) e = refl
-none_at_end (pos (suc n)) e = absurd (true≢false (sym e))
-none_at_end (negsuc n) e = refl
+pub none_at_end : (got : Option ℕ) → at_end got ≡ true → brought got ≡ 0
+none_at_end (Some zero) e = refl
+none_at_end (Some (suc n)) e = absurd (true≢false (sym e))
+none_at_end None e = refl
 
-pub some_not_end : (got : ℤ) → 0 < brought got → at_end got ≡ false
-some_not_end (pos zero) h = absurd (let z : ⊥ = omega arith in z)
-some_not_end (pos (suc n)) h = refl
-some_not_end (negsuc n) h = refl
+pub some_not_end : (got : Option ℕ) → 0 < brought got → at_end got ≡ false
+some_not_end (Some zero) h = absurd (let z : ⊥ = omega arith in z)
+some_not_end (Some (suc n)) h = refl
+some_not_end None h = refl
 
 -- each turn that goes on has read a byte
 pub fewer_left : (read n next : ℕ) (more again : Bool) → more ≡ true → read < most_read → next ≡ read + n → (again ≡ true → 0 < n)

@@ -1,4 +1,4 @@
-// Reading an input to its end: what a read gave, as the system's read answers it.
+// Reading an input to its end: how many bytes a read brought, or none where it failed.
 #![tactic(auto)]
 
 ghost use Rattle.std.specs.Prelude.{◌≡◌, length, take};
@@ -12,22 +12,19 @@ use std::io::Read;
 pub const MOST_READ: usize = 9007199254740992;
 
 // Tells whether a read met the end of the input.
-pub fn is_end(got: isize) -> bool
+pub fn is_end(got: Option<usize>) -> bool
     ensures { result ≡ at_end got }
 {
-    got == 0
+    got == Some(0)
 }
 
-// Reads once into the chunk, and returns how many bytes that brought, 0 at the end of the input, or -1 where it failed:
-// a number, as the library's count and the definition `brought` take it.
-pub fn read<R: Read>(from: &mut R, chunk: &mut [u8]) -> isize
+// Reads once into the chunk, and returns how many bytes that brought, 0 at the end of the input, or none where it
+// failed.
+pub fn read<R: Read>(from: &mut R, chunk: &mut [u8]) -> Option<usize>
     ensures answers { Answers (length chunk.new) result }
     ensures bytes { Consumed (R.remaining from.old) (R.remaining from.new) result chunk.new }
 {
-    match from.read(chunk) {
-        Ok(n) => n as isize,
-        Err(_) => -1,
-    }
+    from.read(chunk).ok()
 }
 
 // Reads until the chunk is full, the input ends or a read fails, and returns how many bytes it put at the chunk's

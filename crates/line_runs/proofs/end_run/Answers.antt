@@ -4,8 +4,6 @@ use mathlib.Core.Bool.{Bool, true, false, true≢false}
 use mathlib.Core.Path.{◌≡◌, refl, sym, ap, ◌∙◌}
 use Prim.Native.Nat.{ℕ, ◌+◌}
 use native.Mathlib.Omega.{arith}
-use mir.Syntax.{w64}
-use mir.ValLaws.{to_z-of_z}
 use lib.ListN.{take}
 use lib.Seq.{length-take-le}
 use Rattle.input_lines.specs.Taking.{Place}
@@ -50,13 +48,7 @@ module _ {Memory : Type 0} {Answered : Memory → List (List ℕ) → List ℕ �
       }
 
 pub returns-then-is_end : goal.returns-then-is_end
-returns-then-is_end g c =
-    let got : c.is_end.result ≡ at_end c.args.t.got =
-    c.is_end.ensures ∙ ap at_end (to_z-of_z w64 c.args.t.got (record { sfits = c.struct_told-1.given.1.0.1 })) in
-    at_end_lem c.args.t (sym got ∙ c.if-is_end.true) c.take_last-last.ensures c.tell-told.ensures
+returns-then-is_end g c = at_end_lem c.args.t (sym c.is_end.ensures ∙ c.if-is_end.true) c.take_last-last.ensures c.tell-told.ensures
 
 pub returns : goal.returns
-returns g c =
-    let got : c.is_end.result ≡ at_end c.args.t.got =
-    c.is_end.ensures ∙ ap at_end (to_z-of_z w64 c.args.t.got (record { sfits = c.struct_told-1.given.1.0.1 })) in
-    before_end c.args.t g.T.Answers.laws (sym got ∙ c.if-is_end.false) c.tell-told-2.ensures
+returns g c = before_end c.args.t g.T.Answers.laws (sym c.is_end.ensures ∙ c.if-is_end.false) c.tell-told-2.ensures

@@ -5,23 +5,19 @@ use mathlib.Core.Path.{◌≡◌, refl, sym, ap, ◌∙◌}
 use Prim.Native.Nat.{ℕ, ◌+◌, ◌≤◌}
 use native.Mathlib.Omega.{arith}
 use borrow.Author.Tests.{le-leb}
-use mir.Syntax.{w64}
-use mir.ValLaws.{to_z-of_z}
-use lib.IntN.{ℤ}
+use Rattle.std.specs.Prelude.{Option}
 use lib.ListN.{length, take}
-use lib.Seq.{take-take}
-use Rattle.io.specs.Counts.{clamp_len}
+use lib.Seq.{take-take, length-take-le}
 use Rattle.input_lines.specs.Taking.{Place}
 use Rattle.input_lines.proofs.Taking.{Laws, none_handed}
 use Rattle.reads.specs.Reads.{brought}
-use Rattle.reads.proofs.Turning.{counted}
 use Rattle.line_runs.specs.declared.Step.{Step}
 use Rattle.line_runs.specs.declared.Turn.{Turn}
 use Rattle.line_runs.specs.Runs.{TakesChunk, Turns}
 use Rattle.line_runs.proofs.take_turn.Goals as goal
 
 module _ {Memory : Type 0} {Answered : Memory → List (List ℕ) → List ℕ → Memory → Type 0} {Stays : Memory → ℕ → Memory → Type 0} {most : ℕ}
-    (laws : Laws Answered Stays) {p : Place Memory} (t : Turn) {chunk : List ℕ} {got : ℤ} {n : ℕ} (b : n ≡ brought got) where
+    (laws : Laws Answered Stays) {p : Place Memory} (t : Turn) {chunk : List ℕ} {got : Option ℕ} {n : ℕ} (b : n ≡ brought got) where
   nothing_read : n ≡ 0
       → Turns Answered Stays most p p t
       (record { state = t.state; got = got; read = t.read; handed = t.handed; all = true; more = false }) chunk
@@ -56,22 +52,19 @@ module _ {Memory : Type 0} {Answered : Memory → List (List ℕ) → List ℕ �
       }
 
 pub returns-then-n-eq0 : goal.returns-then-n-eq0
-returns-then-n-eq0 g c =
-    let r = c.read-got in let k = c.count-n in let got = to_z-of_z w64 r.result (record { sfits = r.type_inv }) in
-    let b : k.result ≡ brought r.result = counted r.result k.result (length r.new.chunk) r.ensures.answers
-    (k.ensures.value ∙ ap (λ (z : ℤ). clamp_len z (length r.new.chunk)) got) in
-    rw got (nothing_read g.T.Answers.laws c.args.t b c.if-n-eq0.true)
+returns-then-n-eq0 g c = nothing_read g.T.Answers.laws c.args.t c.unwrap_or-n.ensures c.if-n-eq0.true
 
 pub take_chunk-step-requires : goal.take_chunk-step-requires
 take_chunk-step-requires g c =
-    let h = c.count-n.ensures.in_bounds.0 in let e = c.count-n.ensures.in_bounds.1 in let z = c.if-n-eq0.false in
+    let b = c.unwrap_or-n.ensures in let h = c.read-got.ensures.answers in let z = c.if-n-eq0.false in
+    let within : c.unwrap_or-n.result ≤ length c.read-got.new.chunk = omega arith in
+    let e = length-take-le c.unwrap_or-n.result c.read-got.new.chunk within in
     let l = c.read-got.auto.chunk in let d = c.requires.0 in let m = d.most in
     (record { line = d.line; within = d.within; some = omega arith; most = omega arith }, c.requires.1, c.requires.3)
 
 pub returns : goal.returns
 returns g c =
-    let r = c.read-got in let k = c.count-n in let got = to_z-of_z w64 r.result (record { sfits = r.type_inv }) in
-    let b : k.result ≡ brought r.result = counted r.result k.result (length r.new.chunk) r.ensures.answers
-    (k.ensures.value ∙ ap (λ (z : ℤ). clamp_len z (length r.new.chunk)) got) in
-    rw got
-    (some_read g.T.Answers.laws c.args.t b k.ensures.in_bounds.0 k.ensures.in_bounds.1 c.if-n-eq0.false c.take_chunk-step.ensures)
+    let b = c.unwrap_or-n.ensures in let h = c.read-got.ensures.answers in
+    let within : c.unwrap_or-n.result ≤ length c.read-got.new.chunk = omega arith in
+    some_read g.T.Answers.laws c.args.t b within (sym (length-take-le c.unwrap_or-n.result c.read-got.new.chunk within))
+    c.if-n-eq0.false c.take_chunk-step.ensures
