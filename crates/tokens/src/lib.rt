@@ -16,7 +16,7 @@ pub struct TokenRange {
     pub to: usize,
 }
 
-pub fn ends_word(b: u8) -> bool
+fn ends_word(b: u8) -> bool
     ensures { result ≡ ends_word b }
 {
     b == 32 || b == 40 || b == 41
