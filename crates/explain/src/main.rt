@@ -15,6 +15,7 @@ fn write_help(rt: HostRuntime) {
     );
 }
 
+// Each program has a `main` of its own, with its name, texts and maker.
 fn main(rt: HostRuntime) {
     match arguments::read(rt) {
         Command::Run => shown_lines::show_input(rt, Maker::Explanations),

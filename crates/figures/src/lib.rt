@@ -18,7 +18,7 @@ use planforms::Planform;
 use refusals::{Refusal, Verdict};
 
 // A set's body with the totals of intervals and samples. A refusal carries zero figures, no intervals, and the samples
-// taken so far.
+// taken so far. Verdict and body stand in no Result, since lent memory holds each by itself, as C wrote them.
 #[derive(Clone, Copy)]
 pub struct Figures {
     pub verdict: Verdict,
@@ -28,7 +28,7 @@ pub struct Figures {
 }
 
 // A planform's area and centroid with the totals of intervals and samples. A refusal carries zero figures, no
-// intervals, and the samples taken so far.
+// intervals, and the samples taken so far. It is built as `Figures` is, since one claim is about both.
 #[derive(Clone, Copy)]
 pub struct Area {
     pub verdict: Verdict,

@@ -62,7 +62,7 @@ pub struct JobProgress {
 }
 
 // What a making, a submission or a change of density answers: taken where the verdict accepts, else its number with the
-// samples so far.
+// samples so far. It is no Result, since the samples are told with a refusal too.
 #[derive(Clone, Copy)]
 pub struct Reply {
     pub verdict: Verdict,

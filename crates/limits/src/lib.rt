@@ -96,7 +96,8 @@ pub fn check_scratch(limit: usize, scratch_len: usize) -> Verdict
     refuse_unless(limit <= scratch_len / PIECE_NUMBERS, Refusal::Scratch)
 }
 
-// Checks that a count of fins, or of bodies to be joined, is 1 to 32, else refuses with 3.
+// Checks that a count of fins, or of bodies to be joined, is 1 to 32, else refuses with 3. A function for both this and
+// the limit's range would take all that the line has.
 pub fn check_count(count: usize) -> Verdict
     ensures { result ≡ count_check count }
 {

@@ -21,7 +21,8 @@ pub const LINE_FIGURES: usize = 4096;
 
 // Where reading stands: whether the line may still be a form; the next byte; how many figures have been read; the
 // number read last, which is a count or an alternative's place among the others, from 1 on; and whether a word that is
-// no figure stood where one belongs.
+// no figure stood where one belongs. It is no Option: where `ok` is false too, the figures read so far are counted and
+// kept, as `ReadsOn` promises.
 #[derive(Clone, Copy)]
 pub struct Cursor {
     pub ok: bool,
@@ -275,7 +276,8 @@ pub fn bar_end(alternatives: &[u8], i: usize) -> usize
     alternatives.len()
 }
 
-// Takes the first of the alternatives that fits, a bar between each two, and notes its number, from 1 on.
+// Takes the first of the alternatives that fits, a bar between each two, and notes its number, from 1 on. A `for` over
+// the pieces between bars would need a law that `split` cuts as `cut_at_bars` does.
 pub fn take_one_of(line: &[u8], c: Cursor, alternatives: &[u8], values: &mut [f64]) -> Cursor
     requires { Room line.now values.old c × (length alternatives.now ≤ line_bytes) }
     ensures { Takes (one_of (cut_at_bars alternatives.now)) line.now values.old
