@@ -78,12 +78,16 @@ pub trait Answers {
     // what is told on standard error, by whether every line was answered
     ghost told: { Self → Bool → List ℕ };
 
+    // how what answers lines, and what stays, go together
     ghost laws: { Laws answered stays };
 
+    // what may take bytes may take more after some
     ghost still_ready: { (m n : Self) (i j : ℕ) → ready m i → stays m j n → ready n (i + j) };
 
+    // what is told stays the same while bytes are taken
     ghost told_stays: { (m n : Self) (i : ℕ) → stays m i n → told n ≡ told m };
 
+    // what is handed for all bytes read can be counted in 64 bits
     ghost few: { most ≤ 1050 };
 
     // Takes the bytes of a chunk from where the run stands on, and writes what answers the lines that end in them.

@@ -78,8 +78,9 @@ fn show_next(
 ) -> Step
     requires { Lends buffer.old s.state chunk.now × (s.handed ≤ numbered_bytes * (most_read + s.taken))
         × (s.taken < length chunk.now) × (showing.old.ended ≤ most_read + s.taken) }
-    ensures { Steps (place_in buffer.old s.state showing.old) (place_in buffer.new result.state showing.new) s result
-        chunk.now showing.new.out }
+    ensures steps { Steps (place_in buffer.old s.state showing.old) (place_in buffer.new result.state showing.new) s
+        result chunk.now showing.new.out }
+    ensures lines { showing.new.ended ≤ showing.old.ended + 1 }
 {
     let at = s.taken;
     let begun = s.state;
