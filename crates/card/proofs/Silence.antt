@@ -29,10 +29,14 @@ some_handed left out r p e h =
     let s = some_replied p.taken at_first (omega arith) in
     omega arith
 
--- two programs that meet it, and take as many bytes from the same place on
-pub same_written : {p q r : Place Replying} {s t u : Step} {chunk out written : List ℕ} (begun : List ℕ) → Begun p begun → t.taken ≡ u.taken
-    → Steps p q s t chunk out → Steps p r s u chunk written → take t.written out ≡ take u.written written
-same_written {p = p} {s = s} {chunk = chunk} begun k e a b =
+-- two programs that meet it, and take as many bytes from places where the same line has begun over the same scratch and engine, whatever
+-- their buffers and their `out` hold beside
+pub same_written : {p p' q r : Place Replying} {s t u : Step} {chunk out written : List ℕ} (begun : List ℕ) → Begun p begun → Begun p' begun
+    → memory_at p.memory ≡ memory_at p'.memory → t.taken ≡ u.taken → Steps p q s t chunk out → Steps p' r s u chunk written
+    → take t.written out ≡ take u.written written
+same_written {p = p} {s = s} {u = u} {chunk = chunk} begun k l m e a b =
+    let lines = λ (n : ℕ). lines_within begun (take (n - s.taken) (drop s.taken chunk)) in
     (a.takes.answers begun k).answered.replied
-    ∙ ap (λ (n : ℕ). replies (lines_within begun (take (n - s.taken) (drop s.taken chunk))) (memory_at p.memory)) e
-    ∙ sym (b.takes.answers begun k).answered.replied
+    ∙ ap (λ (n : ℕ). replies (lines n) (memory_at p.memory)) e
+    ∙ ap (λ (left : Memory). replies (lines u.taken) left) m
+    ∙ sym (b.takes.answers begun l).answered.replied

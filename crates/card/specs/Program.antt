@@ -17,7 +17,6 @@ use Rattle.inputs.specs.States.{Answered, SameLengths}
 use Rattle.line_runs.specs.declared.Step.{Step}
 use Rattle.line_runs.specs.declared.Last.{Last}
 use Rattle.line_runs.specs.declared.End.{End}
-use Rattle.line_runs.specs.Runs.{TakesChunk}
 use Rattle.line_runs.specs.Runs.{Steps as StepsOver, Ends as EndsOver}
 use Rattle.card.specs.declared.Replying.{Replying}
 
@@ -62,10 +61,6 @@ pub record StaysOver (before : Replying) (taken : ℕ) (after : Replying) : Type
 -- replies to the lines that ended in them
 abbrev pub Steps : Place Replying → Place Replying → Step → Step → List ℕ → List ℕ → Type 0
 Steps before after s r chunk out = StepsOver AnsweredOver StaysOver reply_bytes before after s r chunk out
-
--- what becomes of a chunk
-abbrev pub Replies : Place Replying → Place Replying → List ℕ → ℕ → Step → Type 0
-Replies before after chunk handed r = TakesChunk AnsweredOver StaysOver reply_bytes before after chunk handed r
 
 -- the end of the input: the line that has begun is the last, unless it has no byte
 abbrev pub Ends : Place Replying → Replying → List ℕ → Last → Type 0

@@ -162,7 +162,8 @@ fn answer_input(rt: HostRuntime) {
         out: io::large_buffer(),
     };
     let end = run(&mut replying, rt, &mut buffer, &mut chunk);
-    line_runs::write_told(rt, &replying.out, end.told);
+    let out: &[u8] = &replying.out;
+    let _ = rt.stderr().write_all(&out[..end.told]);
 }
 
 fn write_help(rt: HostRuntime) {

@@ -15,7 +15,6 @@ ghost use Rattle.line_runs.specs.Runs.{no_line, Lends, Steps, TakesChunk, Turns,
 
 use input_lines::State;
 use reads::MOST_READ;
-use std::io::Write;
 
 // Where a run stands in a chunk: the line that has begun, how many bytes of the chunk are taken, how many bytes were
 // handed to write since the run began, how many of them with the last write, and whether that took them all.
@@ -215,11 +214,4 @@ pub fn run<T: Answers>(taker: &mut T, rt: HostRuntime, buffer: &mut [u8], chunk:
         turn = take_turn(taker, rt, buffer, turn, chunk);
     }
     end_run(taker, rt, buffer, turn)
-}
-
-// Writes what is told on standard error.
-pub fn write_told(rt: HostRuntime, out: &[u8], told: usize)
-    requires { told ≤ length out.now }
-{
-    let _ = rt.stderr().write_all(&out[..told]);
 }

@@ -12,7 +12,7 @@ use Rattle.input_lines.specs.Taking.{Place}
 use Rattle.line_runs.specs.declared.Last.{Last}
 use Rattle.line_runs.specs.declared.Step.{Step}
 use Rattle.line_runs.specs.declared.End.{End}
-use Rattle.line_runs.specs.Runs.{Ends, TakesChunk}
+use Rattle.line_runs.specs.Runs.{Ends}
 use Rattle.line_runs.specs.Runs.{Steps as StepsOver}
 use Rattle.blocks.specs.Cards.{numbered_bytes, numbered_block}
 use Rattle.explanations.specs.Explanations.{numbered_kept, numbered_explanation}
@@ -93,10 +93,6 @@ pub record StaysOver (before : Showing) (taken : ℕ) (after : Showing) : Type 0
 -- lines that ended in these bytes
 abbrev pub Steps : Place Showing → Place Showing → Step → Step → List ℕ → List ℕ → Type 0
 Steps before after s r chunk out = StepsOver ShownOver StaysOver numbered_bytes before after s r chunk out
-
--- what becomes of a chunk
-abbrev pub ShowsChunk : Place Showing → Place Showing → List ℕ → ℕ → Step → Type 0
-ShowsChunk before after chunk handed r = TakesChunk ShownOver StaysOver numbered_bytes before after chunk handed r
 
 -- the end of the input: the line that has begun is the last, unless it has no byte
 abbrev pub ShowsLast : Place Showing → Showing → List ℕ → Last → Type 0

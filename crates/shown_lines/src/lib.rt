@@ -205,5 +205,6 @@ pub fn show_input(rt: HostRuntime, maker: Maker) {
         out: [0; 1050],
     };
     let end = run(&mut showing, rt, &mut buffer, &mut chunk);
-    line_runs::write_told(rt, &showing.out, end.told);
+    let out: &[u8] = &showing.out;
+    let _ = rt.stderr().write_all(&out[..end.told]);
 }

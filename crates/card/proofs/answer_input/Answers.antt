@@ -1,6 +1,7 @@
 -- `card::answer_input` meets its contract: what it lends is what `run` asks for. Assumes nothing.
-use mathlib.Core.Path.{refl}
+use mathlib.Core.Path.{refl, sym}
 use native.Mathlib.Omega.{arith}
+use lib.Seq.{length-take-le}
 use Rattle.card.specs.Program.{at_first}
 use Rattle.card.proofs.answer_input.Goals as goal
 
@@ -12,5 +13,6 @@ run-end-requires c = (
   refl,
 )
 
-pub write_told-requires : goal.write_told-requires
-write_told-requires c = c.run-end.ensures.tells.room
+pub slice_bounds-write_all-end : goal.slice_bounds-write_all-end
+slice_bounds-write_all-end c =
+    sym (length-take-le c.run-end.result.told c.run-end.new.replying.out c.run-end.ensures.tells.room)

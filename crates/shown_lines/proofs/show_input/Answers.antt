@@ -1,11 +1,13 @@
 -- `shown_lines::show_input` meets its contract: what it lends is what `run` asks for. Assumes nothing.
-use mathlib.Core.Path.{refl}
+use mathlib.Core.Path.{refl, sym}
 use native.Mathlib.Omega.{arith}
+use lib.Seq.{length-take-le}
 use Rattle.shown_lines.proofs.show_input.Goals as goal
 
 pub run-end-requires : goal.run-end-requires
 run-end-requires c =
     (record { line = omega arith; within = omega arith; some = omega arith; most = omega arith }, refl)
 
-pub write_told-requires : goal.write_told-requires
-write_told-requires c = c.run-end.ensures.tells.room
+pub slice_bounds-write_all-end : goal.slice_bounds-write_all-end
+slice_bounds-write_all-end c =
+    sym (length-take-le c.run-end.result.told c.run-end.new.showing.out c.run-end.ensures.tells.room)
