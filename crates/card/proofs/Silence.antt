@@ -29,8 +29,8 @@ some_handed left out r p e h =
     let s = some_replied p.taken at_first (omega arith) in
     omega arith
 
--- two programs that meet it, and take as many bytes from places where the same line has begun over the same scratch and engine, whatever
--- their buffers and their `out` hold beside
+-- Two programs that meet it hand the same bytes to write, if they take as many bytes of a chunk, each from a place where the same line has
+-- begun over the same scratch and engine; what else their buffers and their `out` hold does not matter.
 pub same_written : {p p' q r : Place Replying} {s t u : Step} {chunk out written : List ℕ} (begun : List ℕ) → Begun p begun → Begun p' begun
     → memory_at p.memory ≡ memory_at p'.memory → t.taken ≡ u.taken → Steps p q s t chunk out → Steps p' r s u chunk written
     → take t.written out ≡ take u.written written

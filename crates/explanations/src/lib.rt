@@ -50,8 +50,8 @@ fn fault_in(reply: Reply) -> Option<Fault>
 }
 
 // Returns what a line that stands alone is refused for, if it is: the answer is that of a program which has read
-// nothing else. It is a function of its own in what is built too: it lends some 52 kB, and its two callers, one of
-// which comes to call the other, would each lend that.
+// nothing else. The compiler may not copy it into its callers: its arrays take some 52 kB of stack, and of its two
+// callers one runs inside the other, so that they would be there twice.
 #[inline(never)]
 fn fault_of(line: &[u8]) -> Option<Fault>
     ensures { result ≡ fault_of line.now }
